@@ -4,7 +4,7 @@
     suite/run --answers python3 suite/adapters/python-referencing.py
 
 The package has no limit of retrieved documents, and no list of the references that lead nowhere: these two fields are read and not used.
-The draft that is told is that of the resource under the base at the end, or else that of the request. A document is retrieved when a
+The draft that is printed is that of the resource under the base at the end, or else that of the request. A document is retrieved when a
 reference to it is looked up. suite/PEERS.md lists what it answers otherwise.
 """
 import json

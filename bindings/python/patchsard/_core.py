@@ -153,7 +153,7 @@ class _Opened:
         self.close.atexit = False
 
     def value(self, answer: Dict[str, Any]) -> Schema:
-        """The caller's value at the place that an answer tells."""
+        """The caller's value at the place that an answer names."""
         number = answer["registry"]
         opened = self
         while opened.number != number:
@@ -537,7 +537,7 @@ class Resolved:
 
 
 class Dangling(NamedTuple):
-    """A reference that finds nothing: the document it stands in, the pointer to its schema there, and the error as the program tells it."""
+    """A reference that finds nothing: the document it stands in, the pointer to its schema there, and the error as the program gives it."""
 
     document: Schema
     pointer: str

@@ -64,7 +64,7 @@ class Process:
         return self._popen.pid
 
     def is_alive(self) -> bool:
-        """Whether it runs still, as far as one can tell without asking it."""
+        """Whether it runs still, as far as one can know without asking it."""
         if not self.ended and self._popen.poll() is not None:
             with self._lock:
                 if not self.ended:

@@ -1,14 +1,12 @@
 //! Lints, follows, bundles, lists and draws the references of folders of JSON Schema files. What files are read is
-//! `ref_reading`, and how messages are printed `ref_messages`. `ref_project` has the subcommands that need neither bundles nor the
-//! server, each in a file of its name; here are `bundle` and `serve`.
+//! `ref_reading`, and how messages are printed `ref_messages`. Each subcommand is in a file of its name: `bundle` in `ref_bundle_files`,
+//! `serve` here, and the others in `ref_project`.
 #![tactic(auto)]
 
-mod bundle;
-mod refusals;
 mod serve;
-mod write;
 
 use clap::ArgMatches;
+use ref_bundle_files::bundle;
 use ref_project::{graph, lint, places, resolve};
 use ref_reading::{Console, Stop, command, console, say};
 use std::process::ExitCode;

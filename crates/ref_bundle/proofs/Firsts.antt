@@ -20,13 +20,13 @@ pub first_front : {X : Type 0} (xs ys : List X) (x : X) → Some x ≡ first xs 
 first_front [] ys x is = cc
 first_front (y ∷ xs) ys x is = is
 
-pub first_behind : {X : Type 0} (xs ys : List X) → first xs ≡ None → first (xs ++ ys) ≡ first ys
-first_behind [] ys is = refl
-first_behind (y ∷ xs) ys is = cc
+pub first_past : {X : Type 0} (xs ys : List X) → first xs ≡ None → first (xs ++ ys) ≡ first ys
+first_past [] ys is = refl
+first_past (y ∷ xs) ys is = cc
 
 -- what one check finds, or else another
 pub passed_on : {X Y E : Type 0} (said : X → Y) (xs ys : List Y) (a b : Result (Option X) E) → IfOk a (λ o. option_map said o ≡ first xs) → IfOk b (λ o. option_map said o ≡ first ys) → IfOk (first_found a b) (λ o. option_map said o ≡ first (xs ++ ys))
-passed_on said xs ys (Ok None) (Ok o) before here = here ∙ sym (first_behind xs ys (sym before))
+passed_on said xs ys (Ok None) (Ok o) before here = here ∙ sym (first_past xs ys (sym before))
 passed_on said xs ys (Ok None) (Err error) before here = here
 passed_on said xs ys (Ok (Some x)) b before here = first_front xs ys (said x) before
 passed_on said xs ys (Err error) b before here = before
@@ -49,7 +49,7 @@ first_single f (Some x) = append-nil (f x)
 pub none_more : {X Y A : Type 0} (f : Y → List A) (v : X → Y) (xs : List X) (i : ℕ) (x : X) → i < length xs → x ≡ get_or xs i x
     → first (flat_map f (map v (take i xs))) ≡ None → None ≡ first (f (v x)) → first (flat_map f (map v (take (i + 1) xs))) ≡ None
 none_more f v xs i x within is before here =
-    ap first (joined_more f v xs i x within is) ∙ first_behind (flat_map f (map v (take i xs))) (f (v x)) before ∙ sym here
+    ap first (joined_more f v xs i x within is) ∙ first_past (flat_map f (map v (take i xs))) (f (v x)) before ∙ sym here
 
 flat_cons : {Y A : Type 0} (f : Y → List A) (y : Y) (ys : List Y) → flat_map f (y ∷ ys) ≡ f y ++ flat_map f ys
 flat_cons f y ys = refl
@@ -61,8 +61,8 @@ found_here f v [] i x a within is before here = absurd (omega (arith, within))
 found_here f v (y ∷ xs) zero x a within is before here = first_front (f (v y)) (flat_map f (map v xs)) a (here ∙ ap (λ z. first (f (v z))) is)
 found_here f v (y ∷ xs) (suc i) x a within is before here =
     let none = nothing (f (v y)) (flat_map f (map v (take i xs))) before in
-    found_here f v xs i x a (omega (arith, within)) is (sym (first_behind (f (v y)) (flat_map f (map v (take i xs))) none) ∙ before) here
-    ∙ sym (first_behind (f (v y)) (flat_map f (map v xs)) none)
+    found_here f v xs i x a (omega (arith, within)) is (sym (first_past (f (v y)) (flat_map f (map v (take i xs))) none) ∙ before) here
+    ∙ sym (first_past (f (v y)) (flat_map f (map v xs)) none)
   where
     nothing : {A : Type 0} (xs ys : List A) → first (xs ++ ys) ≡ None → first xs ≡ None
     nothing [] ys is = refl

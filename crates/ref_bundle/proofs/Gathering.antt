@@ -68,35 +68,35 @@ all_groups gs k (d ∷ ds) long =
 
 -- ---- places that are listed
 
-abbrev pub Stand : Layer → Layer → Type 0
-Stand layer ds = (d : Document) (p : Place) → Contains ds d → Contains (places d) p → value_at d.tree p.path ≡ Some p.value
+abbrev pub AreThere : Layer → Layer → Type 0
+AreThere layer ds = (d : Document) (p : Place) → Contains ds d → Contains (places d) p → value_at d.tree p.path ≡ Some p.value
 
 see_place : (layer : Layer) (k : ℕ) (d : Document) (p : Place) → slice_get layer k ≡ Some d → value_at d.tree p.path ≡ Some p.value → option_to_list (see_listed layer (listed_place k p)) ≡ see k p ∷ []
-see_place layer k d p here stands =
+see_place layer k d p here is_at_path =
     ap (λ o. option_to_list (option_map (λ v. record { document = k; path = p.path; value = v; draft = p.draft; base = p.base }) o))
-    (ap (option_and_then (λ (e : Document). value_at e.tree p.path)) here ∙ stands)
+    (ap (option_and_then (λ (e : Document). value_at e.tree p.path)) here ∙ is_at_path)
 
 see_places : (layer : Layer) (k : ℕ) (d : Document) (ps : List Place) → slice_get layer k ≡ Some d → ((p : Place) → Contains ps p → value_at d.tree p.path ≡ Some p.value)
     → all_seen layer (map (listed_place k) ps) ≡ map (see k) ps
-see_places layer k d [] here stand = refl
-see_places layer k d (p ∷ ps) here stand =
-    ap (λ l. l ++ all_seen layer (map (listed_place k) ps)) (see_place layer k d p here (stand p (at_first p ps)))
-    ∙ ap (λ l. see k p ∷ l) (see_places layer k d ps here (λ q there. stand q (later_in p ps q there)))
+see_places layer k d [] here are_there = refl
+see_places layer k d (p ∷ ps) here are_there =
+    ap (λ l. l ++ all_seen layer (map (listed_place k) ps)) (see_place layer k d p here (are_there p (at_first p ps)))
+    ∙ ap (λ l. see k p ∷ l) (see_places layer k d ps here (λ q there. are_there q (later_in p ps q there)))
 
-see_documents : (layer : Layer) (k : ℕ) (ds : Layer) → ((i : ℕ) → slice_get layer (k + i) ≡ slice_get ds i) → Stand layer ds → all_seen layer (listed_from k ds) ≡ flat_map seen_in (counted_documents k ds)
-see_documents layer k [] from stand = refl
-see_documents layer k (d ∷ ds) from stand =
+see_documents : (layer : Layer) (k : ℕ) (ds : Layer) → ((i : ℕ) → slice_get layer (k + i) ≡ slice_get ds i) → AreThere layer ds → all_seen layer (listed_from k ds) ≡ flat_map seen_in (counted_documents k ds)
+see_documents layer k [] from are_there = refl
+see_documents layer k (d ∷ ds) from are_there =
     let begin : k ≡ k + 0 = omega arith in
     let here : slice_get layer k ≡ Some d = ap (slice_get layer) begin ∙ from 0 in
     let next = λ (i : ℕ). (let e : suc k + i ≡ k + suc i = omega arith in ap (slice_get layer) e ∙ from (suc i)) in
     flat_map-append (λ l. option_to_list (see_listed layer l)) (map (listed_place k) (places d)) (listed_from (suc k) ds)
-    ∙ ap (λ l. l ++ all_seen layer (listed_from (suc k) ds)) (see_places layer k d (places d) here (λ p there. stand d p (at_first d ds) there))
-    ∙ ap (λ l. seen_in (k, d) ++ l) (see_documents layer (suc k) ds next (λ e p among there. stand e p (later_in d ds e among) there))
+    ∙ ap (λ l. l ++ all_seen layer (listed_from (suc k) ds)) (see_places layer k d (places d) here (λ p there. are_there d p (at_first d ds) there))
+    ∙ ap (λ l. seen_in (k, d) ++ l) (see_documents layer (suc k) ds next (λ e p among there. are_there e p (later_in d ds e among) there))
 
 -- the places of a registry, gathered, are those of its documents
-pub all_gathered : (layer : Layer) → Stand layer layer → gathered_places [] (all_seen layer (local_places layer)) ≡ map seen_in (counted_documents 0 layer)
-all_gathered layer stand =
-    ap (gathered_places []) (see_documents layer 0 layer (λ i. let e : 0 + i ≡ i = omega arith in ap (slice_get layer) e) stand)
+pub all_gathered : (layer : Layer) → AreThere layer layer → gathered_places [] (all_seen layer (local_places layer)) ≡ map seen_in (counted_documents 0 layer)
+all_gathered layer are_there =
+    ap (gathered_places []) (see_documents layer 0 layer (λ i. let e : 0 + i ≡ i = omega arith in ap (slice_get layer) e) are_there)
     ∙ all_groups [] 0 layer refl
 
 -- ---- documents

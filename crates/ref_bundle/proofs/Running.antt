@@ -1,4 +1,9 @@
--- Numbers that are reached from a root, as they are gone through.
+-- Numbers that are reached from a root, as they are gone through. In this order:
+-- 1. Marks: how many are set grows by one where one is set.
+-- 2. Adding numbers: `Grows` says what one state has beyond another, and two such states in a row are put together.
+-- 3. The run: each number in the queue has had its own list added, so that what is marked is reached, and the queue ends.
+-- 4. What is reached is what is needed: the least numbers that hold the root and what they refer to.
+-- 5. The steps of the program are those of the run.
 use Rattle.std.specs.Prelude.{slice_set}
 use Rattle.std.proofs.Common.{◌≡◌, ℕ, zero, suc, ◌+◌, ◌<◌, ◌≤◌, Bool, true, false, ◌==◌, ◌||◌, List, [], ◌∷◌, ◌++◌, map, flat_map, length, take, slice_get, Option, Some, None, ◌⊎◌, inl, inr, ⊎_elim, refl, ap, sym, subst, ◌∙◌, append_assoc, append-nil, arith, true≢false}
 use Rattle.std.specs.Option.{unwrap_or, option_map_or, option_to_list}

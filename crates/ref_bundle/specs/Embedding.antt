@@ -92,7 +92,7 @@ pub data Obstacle : Type 0 where
   -- text don't count
   NotKept : List ℕ → Obstacle
   -- no `$schema` could be added by which this draft is detected
-  UntoldDraft : Draft → Obstacle
+  UnnamedDraft : Draft → Obstacle
   -- its root has a dynamic anchor, whose look-up resolves the identifier once more, against the base URI that it gave, and gets
   -- another URI, which an absolute identifier wouldn't give
   ResolvedAgain : Obstacle
@@ -137,6 +137,6 @@ obstacle top d =
     else (if has_no_identifier d then Some NotAnIdentifier
     else (if not (is_kept (base_uri top) (base_uri d) && is_kept (base_uri d) (base_uri d)) then
     Some (NotKept (base_uri d))
-    else (if loses_draft top.draft d then Some (UntoldDraft d.draft)
+    else (if loses_draft top.draft d then Some (UnnamedDraft d.draft)
     else (if is_resolved_again d then Some ResolvedAgain
     else None)))))

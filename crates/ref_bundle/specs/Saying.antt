@@ -22,7 +22,7 @@ obstacle_said obstacles.NotAnObject = embedding.NotAnObject
 obstacle_said obstacles.IdentifierBesideRef = embedding.IdentifierBesideRef
 obstacle_said obstacles.NotAnIdentifier = embedding.NotAnIdentifier
 obstacle_said (obstacles.NotKept uri) = embedding.NotKept uri.value
-obstacle_said (obstacles.UntoldDraft draft) = embedding.UntoldDraft draft
+obstacle_said (obstacles.UnnamedDraft draft) = embedding.UnnamedDraft draft
 obstacle_said obstacles.ResolvedAgain = embedding.ResolvedAgain
 
 -- a problem
@@ -76,7 +76,7 @@ obstacle_text embedding.IdentifierBesideRef =
 obstacle_text embedding.NotAnIdentifier =
     codes "the keyword of its identifier holds what is no identifier"
 obstacle_text (embedding.NotKept uri) = codes "its URI '" ++ uri ++ codes "' can't be an identifier"
-obstacle_text (embedding.UntoldDraft draft) = codes "no `$schema` names its draft"
+obstacle_text (embedding.UnnamedDraft draft) = codes "no `$schema` names its draft"
 obstacle_text embedding.ResolvedAgain =
     codes "its identifier is relative, and its root has a dynamic anchor"
 

@@ -217,7 +217,7 @@ fn obstacle_of_uri(
         return Ok(Some(Obstacle::NotKept(part.base.clone()?)));
     }
     if loses_draft(top.draft, part) {
-        return Ok(Some(Obstacle::UntoldDraft(part.draft)));
+        return Ok(Some(Obstacle::UnnamedDraft(part.draft)));
     }
     if is_resolved_again(alloc, part)? {
         return Ok(Some(Obstacle::ResolvedAgain));

@@ -18,7 +18,7 @@ pub enum Obstacle {
     NotKept(Rc<Uri>),
     /// No `$schema` could be added by which its draft is detected: it has another one, or the draft is that of a custom
     /// meta-schema. Give it the `$schema` of its draft.
-    UntoldDraft(Draft),
+    UnnamedDraft(Draft),
     /// Its root has a dynamic anchor and an identifier that, against the base URI that it gave, gives another one, as the
     /// look-up of such an anchor resolves it. Make the identifier absolute.
     ResolvedAgain,
@@ -118,7 +118,7 @@ impl fmt::Display for Obstacle {
                 f.write_str("the keyword of its identifier holds what is no identifier")
             }
             Obstacle::NotKept(uri) => write!(f, "its URI '{uri}' can't be an identifier"),
-            Obstacle::UntoldDraft(_) => f.write_str("no `$schema` names its draft"),
+            Obstacle::UnnamedDraft(_) => f.write_str("no `$schema` names its draft"),
             Obstacle::ResolvedAgain => {
                 f.write_str("its identifier is relative, and its root has a dynamic anchor")
             }

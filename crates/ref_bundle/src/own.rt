@@ -13,7 +13,7 @@ ghost use Rattle.ref_bundle.specs.declared.own.Own.{Own};
 ghost use Rattle.ref_bundle.specs.inner.Seen.{seen_spot, seen_in, see_listed, put_last, put_place, gathered_places};
 ghost use Rattle.ref_bundle.specs.inner.Seen.{numbered_document, HasPlaces};
 
-use referencing::{Document, Draft, Error, JsonPointerSegment, Place, Registry, Uri};
+use referencing::{Document, Draft, JsonPointerSegment, Place, Registry, Uri};
 use serde_json::Value;
 use std::alloc::{AllocError, Global};
 use std::rc::Rc;
@@ -105,8 +105,11 @@ fn listed<'r>(alloc: Global, registry: &'r Registry<'_>) -> Result<Vec<Place<'r>
 {
     match registry.places(alloc) {
         Ok(places) => Ok(places),
-        Err(Error::Memory(error)) => Err(error),
-        Err(error) => unreachable!("{error}"),
+        // Out of memory is its one error.
+        Err(error) => {
+            drop(error);
+            Err(AllocError)
+        }
     }
 }
 

@@ -129,7 +129,7 @@ put_below keyword draft outer d = record { place = place_below keyword draft out
 children_at : (keyword outer uri : List ℕ) (draft : Draft) (top d : Document) → top.draft ≡ draft → IsEmbeddable top d → (place_below keyword draft outer d).base ≡ Ok uri → (root d).base ≡ Ok uri
     → children_of (place_below keyword draft outer d) ≡ map (below_path (path_below keyword d)) (children_of (root d))
 children_at keyword outer uri draft top d is able here there =
-    let own : detect draft (embedded_tree draft d) ≡ d.draft = subst (λ x. detect x (embedded_tree x d) ≡ d.draft) is (draft_embedded top.draft d able.object able.told) in
+    let own : detect draft (embedded_tree draft d) ≡ d.draft = subst (λ x. detect x (embedded_tree x d) ≡ d.draft) is (draft_embedded top.draft d able.object able.keeps_draft) in
     let same : walked_children (detect draft (embedded_tree draft d)) (embedded_tree draft d) ≡ walked_children d.draft d.tree =
     ap (λ x. walked_children x (embedded_tree draft d)) own ∙ ap (map (with_draft d.draft)) (children_embedded draft d) in
     ap (λ b. children_with b (place_below keyword draft outer d)) here
@@ -139,7 +139,7 @@ children_at keyword outer uri draft top d is able here there =
 
 pub put_there : (keyword outer uri : List ℕ) (top d : Document) → IsEmbeddable top d → (root top).base ≡ Ok outer → (root d).base ≡ Ok uri → IsPut (put_below keyword top.draft outer d)
 put_there keyword outer uri top d able above there =
-    let own = draft_embedded top.draft d able.object able.told in
+    let own = draft_embedded top.draft d able.object able.keeps_draft in
     let uris : base_uri d ≡ uri = base_is d uri there in
     let id : identifier (detect top.draft (embedded_tree top.draft d)) (embedded_tree top.draft d) ≡ Some (trimmed_text (base_uri d)) =
     ap (λ x. identifier x (embedded_tree top.draft d)) own ∙ identifier_embedded top.draft top d able in

@@ -114,7 +114,7 @@ base_now layer n top is uri name kind q p (found_embedded e there now before at 
     let d = e.1 in
     let kept = settled_base layer n top is e name kind there anchored dynamic in
     let id : identifier (place_in top d).draft (embedded_tree top.draft d) ≡ Some (trimmed_text (base_uri d)) =
-    ap (λ x. identifier x (embedded_tree top.draft d)) (draft_embedded top.draft d able.object able.told) ∙ identifier_embedded top.draft top d able in
+    ap (λ x. identifier x (embedded_tree top.draft d)) (draft_embedded top.draft d able.object able.keeps_draft) ∙ identifier_embedded top.draft top d able in
     ap (λ (x : Place). base_within uri (identifier x.draft x.value)) now
     ∙ ap (base_within uri) id
     ∙ ap (λ u. uri_against u (trimmed_text (base_uri d))) at

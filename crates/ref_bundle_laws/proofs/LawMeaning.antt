@@ -1,4 +1,8 @@
--- What URIs and names mean in the world of a bundle, and what they meant.
+-- What URIs and names mean in the world of a bundle, and what they meant. In this order:
+-- 1. Each place of the bundle was a place of one of the documents.
+-- 2. A URI is clear where one document alone has it: the root, or one that is embedded.
+-- 3. The entries and names of the layer that was, and of the layer that is, come from the bundle's parts one by one.
+-- 4. So those of a clear URI are the same, and it means the same place, as does each name under it.
 use Rattle.std.proofs.Common.{◌≡◌, ℕ, suc, cond, ◌&&◌, List, [], ◌∷◌, ◌++◌, flat_map, map, Option, Some, None, option_map, option_and_then, Result, Ok, Err, inl, inr, refl, sym, ap, subst, ◌∙◌, append-nil, bytes_eq}
 use Rattle.std.specs.List.{AllByRecursion, Contains, last_or}
 use Rattle.std.specs.Option.{option_map_or, option_to_list}

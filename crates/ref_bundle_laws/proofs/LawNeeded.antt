@@ -81,8 +81,8 @@ pub record IsKeptThere {X : Type 0} (test : X → Bool) (xs : List X) (x : X) : 
   pub there : Contains xs x
   pub passes : test x ≡ true
 
-kept_behind : {X : Type 0} (test : X → Bool) (y : X) (ys : List X) (x : X) → IsKeptThere test ys x → IsKeptThere test (y ∷ ys) x
-kept_behind test y ys x kept = record { there = Contains-append_right (y ∷ []) ys x kept.there; passes = kept.passes }
+kept_past : {X : Type 0} (test : X → Bool) (y : X) (ys : List X) (x : X) → IsKeptThere test ys x → IsKeptThere test (y ∷ ys) x
+kept_past test y ys x kept = record { there = Contains-append_right (y ∷ []) ys x kept.there; passes = kept.passes }
 
 last_kept_at : {X : Type 0} (test : X → Bool) (y : X) (ys : List X) (x : X) (o : Option X) (b : Bool) → test y ≡ b
     → ((p : Option X) → last_or p (filter test ys) ≡ Some x → (p ≡ Some x) ⊎ IsKeptThere test ys x)
@@ -90,9 +90,9 @@ last_kept_at : {X : Type 0} (test : X → Bool) (y : X) (ys : List X) (x : X) (o
 last_kept_at test y ys x o true is later last =
     ⊎_elim
     (λ own. let same : y ≡ x = cc in inr (record { there = (0, omega arith, same); passes = subst (λ z. test z ≡ true) same is }))
-    (λ kept. inr (kept_behind test y ys x kept))
+    (λ kept. inr (kept_past test y ys x kept))
     (later (Some y) last)
-last_kept_at test y ys x o false is later last = ⊎_elim (λ own. inl own) (λ kept. inr (kept_behind test y ys x kept)) (later o last)
+last_kept_at test y ys x o false is later last = ⊎_elim (λ own. inl own) (λ kept. inr (kept_past test y ys x kept)) (later o last)
 
 pub last_kept : {X : Type 0} (test : X → Bool) (xs : List X) (x : X) (o : Option X) → last_or o (filter test xs) ≡ Some x → (o ≡ Some x) ⊎ IsKeptThere test xs x
 last_kept test [] x o last = inl last

@@ -134,12 +134,12 @@ ready layer parents n top is met e p q need place bases refs metas =
           (all_of (λ w. is_open ((joined top (to_embed layer n) ∷ []) ∷ parents) w ≡ false) (wants_at p.base p.value) (λ w there. want_met layer parents n top is met e p w need place base.0 base.1 there)),
     )
 
-behind_ready : (layer : Layer) (parents : World) (n : ℕ) (top : Document) → IsMade layer n top → open_wants (layer ∷ parents) layer ≡ [] → (e : ℕ × Document) (front : List Part) (ps : List Place) → Contains (needed_documents layer n) e
+after_ready : (layer : Layer) (parents : World) (n : ℕ) (top : Document) → IsMade layer n top → open_wants (layer ∷ parents) layer ≡ [] → (e : ℕ × Document) (front : List Part) (ps : List Place) → Contains (needed_documents layer n) e
     → ((p : Place) → Contains ps p → Contains (places e.1) p) → AllByRecursion (IsReady ((joined top (to_embed layer n) ∷ []) ∷ parents)) (map (below_path front) ps)
-behind_ready layer parents n top is met e front [] need own = tt
-behind_ready layer parents n top is met e front (p ∷ ps) need own = (
+after_ready layer parents n top is met e front [] need own = tt
+after_ready layer parents n top is met e front (p ∷ ps) need own = (
   ready layer parents n top is met e p (below_path front p) need (own p (0, omega arith, refl)) refl refl refl,
-  behind_ready layer parents n top is met e front ps need (λ q there. own q (Contains-append_right (p ∷ []) ps q there)),
+  after_ready layer parents n top is met e front ps need (λ q there. own q (Contains-append_right (p ∷ []) ps q there)),
 )
 
 same_ready : (layer : Layer) (parents : World) (n : ℕ) (top : Document) → IsMade layer n top → open_wants (layer ∷ parents) layer ≡ [] → (e : ℕ × Document) (ps : List Place) → Contains (needed_documents layer n) e
@@ -158,7 +158,7 @@ embedded_ready layer parents n top is met e there =
     let able = embeddable top e.1 (no_obstacle layer is.world n top e (none_in layer is.world n top e is.unrefused need.0) need.1) in (
       ready layer parents n top is met e (root e.1) (place_in top e.1) need.0 (0, omega arith, refl) (put.has_base ∙ sym put.same_base)
           (text_embedded top.draft e.1 (codes "$ref") refl refl refl) (meta_embedded top.draft e.1 able.object),
-      behind_ready layer parents n top is met e (put_in top e).place.path (drop 1 (places e.1)) need.0 (λ q later. Contains-append_right (root e.1 ∷ []) (drop 1 (places e.1)) q later),
+      after_ready layer parents n top is met e (put_in top e).place.path (drop 1 (places e.1)) need.0 (λ q later. Contains-append_right (root e.1 ∷ []) (drop 1 (places e.1)) q later),
     )
 
 each_embedded_ready : (layer : Layer) (parents : World) (n : ℕ) (top : Document) → IsMade layer n top → open_wants (layer ∷ parents) layer ≡ [] → (es : List (ℕ × Document)) → ((e : ℕ × Document) → Contains es e → Contains (to_embed layer n) e)

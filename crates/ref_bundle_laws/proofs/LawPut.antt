@@ -16,7 +16,7 @@ use Rattle.ref_uri.specs.Targets.{uri_of}
 use Rattle.ref_definitions.specs.Results.{◌>>=◌}
 use Rattle.ref_definitions.specs.World.{Document}
 use Rattle.ref_definitions.specs.Wants.{schema_uri, schema_at}
-use Rattle.ref_bundle.specs.Embedding.{is_draft, base_uri, schema_text, is_detected, added_schema, with_member, with_schema, embedded_tree, Obstacle, NotAnObject, IdentifierBesideRef, NotAnIdentifier, NotKept, UntoldDraft, ResolvedAgain, is_resolved_again, is_kept, is_beside_ref, has_no_identifier, loses_draft, obstacle}
+use Rattle.ref_bundle.specs.Embedding.{is_draft, base_uri, schema_text, is_detected, added_schema, with_member, with_schema, embedded_tree, Obstacle, NotAnObject, IdentifierBesideRef, NotAnIdentifier, NotKept, UnnamedDraft, ResolvedAgain, is_resolved_again, is_kept, is_beside_ref, has_no_identifier, loses_draft, obstacle}
 use Rattle.ref_bundle_laws.proofs.LawMembers.{HoldsNone, children_with_member, get_with_other}
 
 pub apart : (a b : List ℕ) → bytes_eq a b ≡ false → ¬ (a ≡ b)
@@ -33,13 +33,13 @@ one_draft Draft202012 Draft202012 is = refl
 one_draft Unknown Unknown is = refl
 one_draft d e is = absurd (true≢false (sym is))
 
-pub told : (draft : Draft) (text : List ℕ) → schema_text draft ≡ Some text → from_schema_uri text ≡ draft
-told Draft4 text is = let e : Some (codes "http://json-schema.org/draft-04/schema#") ≡ Some text = is in let same : codes "http://json-schema.org/draft-04/schema#" ≡ text = cc in subst (λ t. from_schema_uri t ≡ Draft4) same refl
-told Draft6 text is = let e : Some (codes "http://json-schema.org/draft-06/schema#") ≡ Some text = is in let same : codes "http://json-schema.org/draft-06/schema#" ≡ text = cc in subst (λ t. from_schema_uri t ≡ Draft6) same refl
-told Draft7 text is = let e : Some (codes "http://json-schema.org/draft-07/schema#") ≡ Some text = is in let same : codes "http://json-schema.org/draft-07/schema#" ≡ text = cc in subst (λ t. from_schema_uri t ≡ Draft7) same refl
-told Draft201909 text is = let e : Some (codes "https://json-schema.org/draft/2019-09/schema") ≡ Some text = is in let same : codes "https://json-schema.org/draft/2019-09/schema" ≡ text = cc in subst (λ t. from_schema_uri t ≡ Draft201909) same refl
-told Draft202012 text is = let e : Some (codes "https://json-schema.org/draft/2020-12/schema") ≡ Some text = is in let same : codes "https://json-schema.org/draft/2020-12/schema" ≡ text = cc in subst (λ t. from_schema_uri t ≡ Draft202012) same refl
-told Unknown text is = absurd (let e : None ≡ Some text = is in cc)
+pub schema_of_draft : (draft : Draft) (text : List ℕ) → schema_text draft ≡ Some text → from_schema_uri text ≡ draft
+schema_of_draft Draft4 text is = let e : Some (codes "http://json-schema.org/draft-04/schema#") ≡ Some text = is in let same : codes "http://json-schema.org/draft-04/schema#" ≡ text = cc in subst (λ t. from_schema_uri t ≡ Draft4) same refl
+schema_of_draft Draft6 text is = let e : Some (codes "http://json-schema.org/draft-06/schema#") ≡ Some text = is in let same : codes "http://json-schema.org/draft-06/schema#" ≡ text = cc in subst (λ t. from_schema_uri t ≡ Draft6) same refl
+schema_of_draft Draft7 text is = let e : Some (codes "http://json-schema.org/draft-07/schema#") ≡ Some text = is in let same : codes "http://json-schema.org/draft-07/schema#" ≡ text = cc in subst (λ t. from_schema_uri t ≡ Draft7) same refl
+schema_of_draft Draft201909 text is = let e : Some (codes "https://json-schema.org/draft/2019-09/schema") ≡ Some text = is in let same : codes "https://json-schema.org/draft/2019-09/schema" ≡ text = cc in subst (λ t. from_schema_uri t ≡ Draft201909) same refl
+schema_of_draft Draft202012 text is = let e : Some (codes "https://json-schema.org/draft/2020-12/schema") ≡ Some text = is in let same : codes "https://json-schema.org/draft/2020-12/schema" ≡ text = cc in subst (λ t. from_schema_uri t ≡ Draft202012) same refl
+schema_of_draft Unknown text is = absurd (let e : None ≡ Some text = is in cc)
 
 known : (draft : Draft) (text : List ℕ) → schema_text draft ≡ Some text → is_unknown draft ≡ false
 known Draft4 text is = refl
@@ -152,7 +152,7 @@ pub record IsEmbeddable (top d : Document) : Type 0 where
   pub identifies : has_no_identifier d ≡ false
   pub kept : is_kept (base_uri top) (base_uri d) ≡ true
   pub kept_itself : is_kept (base_uri d) (base_uri d) ≡ true
-  pub told : loses_draft top.draft d ≡ false
+  pub keeps_draft : loses_draft top.draft d ≡ false
   pub settled : is_resolved_again d ≡ false
 
 pub embeddable : (top d : Document) → obstacle top d ≡ None → IsEmbeddable top d
@@ -162,9 +162,9 @@ embeddable top d none =
     let third = one_step (has_no_identifier d) NotAnIdentifier _ second.1 in
     let fourth = one_step (not (is_kept (base_uri top) (base_uri d) && is_kept (base_uri d) (base_uri d))) (NotKept (base_uri d)) _ third.1 in
     let both = and_parts (is_kept (base_uri top) (base_uri d)) (is_kept (base_uri d) (base_uri d)) (negated (is_kept (base_uri top) (base_uri d) && is_kept (base_uri d) (base_uri d)) fourth.0) in
-    let fifth = one_step (loses_draft top.draft d) (UntoldDraft d.draft) _ fourth.1 in
+    let fifth = one_step (loses_draft top.draft d) (UnnamedDraft d.draft) _ fourth.1 in
     let sixth = one_step (is_resolved_again d) ResolvedAgain None fifth.1 in
-    record { object = negated (is_object d.tree) first.0; no_ref = second.0; identifies = third.0; kept = both.0; kept_itself = both.1; told = fifth.0; settled = sixth.0 }
+    record { object = negated (is_object d.tree) first.0; no_ref = second.0; identifies = third.0; kept = both.0; kept_itself = both.1; keeps_draft = fifth.0; settled = sixth.0 }
 
 -- ---- its draft
 
@@ -192,20 +192,20 @@ is_added : (draft : Draft) (d : Document) (text : List ℕ) → added_schema dra
 is_added draft d text some = added_by d (is_detected draft d) (is_some (get (codes "$schema") d.tree)) text refl some
 
 detected_by : (b : Bool) (o : Option (List ℕ)) → (not b && not (is_some o)) ≡ false → o ≡ None → b ≡ true
-detected_by true o told none = refl
-detected_by false None told none = absurd (true≢false told)
-detected_by false (Some text) told none = absurd (let e : Some text ≡ None = none in cc)
+detected_by true o kept none = refl
+detected_by false None kept none = absurd (true≢false kept)
+detected_by false (Some text) kept none = absurd (let e : Some text ≡ None = none in cc)
 
 draft_by : (draft : Draft) (d : Document) (o : Option (List ℕ)) → added_schema draft d ≡ o → is_object d.tree ≡ true → loses_draft draft d ≡ false → detect draft (embedded_tree draft d) ≡ d.draft
-draft_by draft d None none is told_ =
+draft_by draft d None none is kept =
     ap (λ o. option_map_or from_schema_uri (option_and_then as_str o) draft) (schema_text_same draft d none)
-    ∙ one_draft (detect draft d.tree) d.draft (detected_by (is_detected draft d) (added_schema draft d) told_ none)
-draft_by draft d (Some text) some is told_ =
+    ∙ one_draft (detect draft d.tree) d.draft (detected_by (is_detected draft d) (added_schema draft d) kept none)
+draft_by draft d (Some text) some is kept =
     ap (λ o. option_map_or from_schema_uri (option_and_then as_str o) draft) (schema_text_added draft d text is some)
-    ∙ told d.draft text (is_added draft d text some).of_draft
+    ∙ schema_of_draft d.draft text (is_added draft d text some).of_draft
 
 pub draft_embedded : (draft : Draft) (d : Document) → is_object d.tree ≡ true → loses_draft draft d ≡ false → detect draft (embedded_tree draft d) ≡ d.draft
-draft_embedded draft d is told_ = draft_by draft d (added_schema draft d) refl is told_
+draft_embedded draft d is kept = draft_by draft d (added_schema draft d) refl is kept
 
 -- ---- its meta-schema
 
@@ -218,7 +218,7 @@ meta_by draft d None none is = ap (λ o. option_and_then schema_uri (option_and_
 meta_by draft d (Some text) some is =
     let added = is_added draft d text some in
     ap (λ o. option_and_then schema_uri (option_and_then as_str o)) (schema_text_added draft d text is some)
-    ∙ ap (λ b. cond b (Some (uri_of text >>= λ uri. Ok (with_fragment uri None))) None) (ap is_unknown (told d.draft text added.of_draft) ∙ known d.draft text added.of_draft)
+    ∙ ap (λ b. cond b (Some (uri_of text >>= λ uri. Ok (with_fragment uri None))) None) (ap is_unknown (schema_of_draft d.draft text added.of_draft) ∙ known d.draft text added.of_draft)
     ∙ sym (ap (λ o. option_and_then schema_uri (option_and_then as_str o)) (none_there (get (codes "$schema") d.tree) added.none))
 
 pub meta_embedded : (draft : Draft) (d : Document) → is_object d.tree ≡ true → schema_at (embedded_tree draft d) ≡ schema_at d.tree

@@ -124,7 +124,8 @@ pub data AreDefinitionsNow (layer : Layer) (number : ℕ) (top : Document) (r : 
       → now ≡ Ok (record own { value = definitions_now layer number top }) → before ≡ Ok own
       → AreDefinitionsNow layer number top r pointer now before
   new_ones : get (definitions_keyword top.draft) top.tree ≡ None
-      → now ≡ Ok (record { value = definitions_now layer number top; draft = top.draft; resolver = r })
+      → now
+      ≡ Ok (record { value = definitions_now layer number top; draft = top.draft; resolver = r })
       → before ≡ Err (PointerToNowhere pointer)
       → AreDefinitionsNow layer number top r pointer now before
 

@@ -7,7 +7,7 @@ ghost use Rattle.ref_draft.specs.declared.draft.Draft.TheVariants.{Draft4, Draft
 ghost use Rattle.ref_definitions.specs.Rows.{at, yes, text, whole_number, empty, one, two, three, pair};
 ghost use Rattle.ref_bundle.specs.Needed.{numbers_of_needed};
 ghost use Rattle.ref_bundle.specs.Embedding.{embedded_tree, NotAnObject, IdentifierBesideRef, NotAnIdentifier, NotKept};
-ghost use Rattle.ref_bundle.specs.Embedding.{UntoldDraft, ResolvedAgain};
+ghost use Rattle.ref_bundle.specs.Embedding.{UnnamedDraft, ResolvedAgain};
 ghost use Rattle.ref_bundle.specs.Bundle.{embedded_document, NoDocument, NotEmbedded, NoMap, KeyTaken, SharedUri};
 ghost use Rattle.ref_bundle.specs.Bundle.{ReplacedUri, ShadowedUri, AddedMember};
 ghost use Rattle.ref_bundle_laws.specs.Rows.{bundle, refused_bundle, bundle_of_first, bundle_above, new, refers_to, refers_to_s, with_definition};
@@ -104,9 +104,9 @@ pub fn obstacles()
     ensures hash_at_the_end { bundle_of_first
         (new "http://a/r" (one "$ref" (text "s##")) ∷ new "http://a/s#" empty ∷ [])
         ≡ refused_bundle 1 [] (NotEmbedded (NotKept (codes "http://a/s#"))) }
-    ensures untold { bundle_of_first
+    ensures unnamed { bundle_of_first
         (refers_to_s ∷ record { uri = codes "http://a/s"; tree = empty; draft = Unknown } ∷ [])
-        ≡ refused_bundle 1 [] (NotEmbedded (UntoldDraft Unknown)) }
+        ≡ refused_bundle 1 [] (NotEmbedded (UnnamedDraft Unknown)) }
     ensures resolved_again { bundle_of_first (new "http://a/r" (one "$ref" (text "x/s"))
         ∷ new "http://a/x/q" (two "$dynamicAnchor" (text "m") "$id" (text "s")) ∷ [])
         ≡ bundle
@@ -124,7 +124,7 @@ pub fn obstacles()
               (text "http://json-schema.org/draft-07/schema#");
           draft = Draft4;
         } ∷ [])
-        ≡ refused_bundle 1 [] (NotEmbedded (UntoldDraft Draft4)) }
+        ≡ refused_bundle 1 [] (NotEmbedded (UnnamedDraft Draft4)) }
 {}
 
 /// Pointers to what is added at the root of an embedded document, or has another value there; and pointers that go elsewhere.

@@ -148,7 +148,7 @@ lead draft pointer base value v here since begun part (more ∷ rest) uri fits a
     let still = quiet_part draft along part within.0 (subst (λ s. Quiet draft s within.0) (sym assoc) within.2) in
     let next : Along = record { base = base; since = since ++ longer } in
     let step : along_part draft along part within.0 ≡ Ok next = still ∙ ap (λ s. Ok (record { base = base; since = s })) assoc in
-    let further = lead draft pointer base value v within.0 since longer more rest uri (fits_behind part (more ∷ rest) fits) within.1
+    let further = lead draft pointer base value v within.0 since longer more rest uri (fits_after part (more ∷ rest) fits) within.1
     (subst (λ p. value_at value p ≡ Some v) (sym same) end)
     (subst (QuietWithin draft since value) (sym same) quiet)
     (λ is. subst (λ p. IsAccepted draft (since ++ p) v) (sym same) (ok is)) means in
@@ -159,9 +159,9 @@ lead draft pointer base value v here since begun part (more ∷ rest) uri fits a
       accepts = further.accepts;
     }
   where
-    fits_behind : (x : Part) (xs : List Part) → HasFittingIndexes (x ∷ xs) → HasFittingIndexes xs
-    fits_behind (Key k) xs f = f
-    fits_behind (Index i) xs f = f.1
+    fits_after : (x : Part) (xs : List Part) → HasFittingIndexes (x ∷ xs) → HasFittingIndexes xs
+    fits_after (Key k) xs f = f
+    fits_after (Index i) xs f = f.1
 
 -- from where the base is known
 pub lead_from : (draft : Draft) (pointer : List ℕ) (along : Along) (value v : Data) (path : List Part) (part : Part) (rest : List Part) (uri : List ℕ) → path ≡ part ∷ rest

@@ -8,7 +8,7 @@ use Rattle.std.proofs.lemmas.Bool.{not-false}
 use Rattle.std.proofs.lemmas.Slice.Eq.{bytes_eq-Decides}
 use Rattle.std.proofs.lemmas.List.Elements.{filter-append}
 use Rattle.std.proofs.lemmas.Grind.{flat_map-append}
-use Rattle.ref_definitions.proofs.Last.{last_there, last_stays, last_behind}
+use Rattle.ref_definitions.proofs.Last.{last_there, last_stays, last_after}
 use Rattle.ref_definitions.specs.World.{Document, Layer, World}
 use Rattle.ref_definitions.specs.Places.{Place, places, root}
 use Rattle.ref_definitions.specs.Resources.{last_under, resource_of, resources_in, resources, meant_place}
@@ -19,10 +19,10 @@ under_stays layer more uri there =
     rw (flat_map-append resources_in layer more, filter-append (λ (e : List ℕ × Place). bytes_eq e.0 uri) (resources layer) (resources more))
     (last_stays (filter (λ (e : List ℕ × Place). bytes_eq e.0 uri) (resources layer)) (filter (λ (e : List ℕ × Place). bytes_eq e.0 uri) (resources more)) there)
 
-under_behind : (front layer : Layer) (uri : List ℕ) → is_some (last_under uri (resources layer)) ≡ true → is_some (last_under uri (resources (front ++ layer))) ≡ true
-under_behind front layer uri there =
+under_after : (front layer : Layer) (uri : List ℕ) → is_some (last_under uri (resources layer)) ≡ true → is_some (last_under uri (resources (front ++ layer))) ≡ true
+under_after front layer uri there =
     rw (flat_map-append resources_in front layer, filter-append (λ (e : List ℕ × Place). bytes_eq e.0 uri) (resources front) (resources layer))
-    (last_behind (filter (λ (e : List ℕ × Place). bytes_eq e.0 uri) (resources front)) (filter (λ (e : List ℕ × Place). bytes_eq e.0 uri) (resources layer)) there)
+    (last_after (filter (λ (e : List ℕ × Place). bytes_eq e.0 uri) (resources front)) (filter (λ (e : List ℕ × Place). bytes_eq e.0 uri) (resources layer)) there)
 
 -- of an entry and what is after it, one is there
 abbrev place_or : Option (List ℕ × Place) → Option Place → Option Place
@@ -36,18 +36,18 @@ by_entry : (entry : Option (List ℕ × Place)) (behind : Option Place) → is_s
 by_entry None behind there = absurd (true≢false (sym there))
 by_entry (Some e) behind there = refl
 
-by_behind : (entry : Option (List ℕ × Place)) (behind : Option Place) → is_some behind ≡ true → is_some (place_or entry behind) ≡ true
-by_behind None behind there = there
-by_behind (Some e) behind there = refl
+by_after : (entry : Option (List ℕ × Place)) (behind : Option Place) → is_some behind ≡ true → is_some (place_or entry behind) ≡ true
+by_after None behind there = there
+by_after (Some e) behind there = refl
 
 pub meanings_stay : (layer more : Layer) (parents : World) (uri : List ℕ) → is_some (meant_place (layer ∷ parents) uri) ≡ true → is_some (meant_place ((layer ++ more) ∷ parents) uri) ≡ true
 meanings_stay layer more parents uri there =
     ⊎_elim (λ entry. by_entry (last_under uri (resources (layer ++ more))) (meant_place parents uri) (under_stays layer more uri entry))
-    (λ behind. by_behind (last_under uri (resources (layer ++ more))) (meant_place parents uri) behind)
+    (λ behind. by_after (last_under uri (resources (layer ++ more))) (meant_place parents uri) behind)
     (one_of (last_under uri (resources layer)) (meant_place parents uri) there)
 
 pub meanings_stay_below : (layer : Layer) (parents : World) (uri : List ℕ) → is_some (meant_place parents uri) ≡ true → is_some (meant_place (layer ∷ parents) uri) ≡ true
-meanings_stay_below layer parents uri there = by_behind (last_under uri (resources layer)) (meant_place parents uri) there
+meanings_stay_below layer parents uri there = by_after (last_under uri (resources layer)) (meant_place parents uri) there
 
 -- the root of each document is under its URI
 own_step : (uri : List ℕ) (e : List ℕ × Place) (es : List (List ℕ × Place)) (b : Bool) → bytes_eq e.0 uri ≡ b → b ≡ true → is_some (last_under uri (e ∷ es)) ≡ true
@@ -61,12 +61,12 @@ all_under : (ds : Layer) → All (λ d. is_some (last_under d.uri (resources ds)
 all_under [] = All-nil _
 all_under (d ∷ ds) =
     All-cons (λ e. is_some (last_under e.uri (resources (d ∷ ds))) ≡ true) d ds (own_under d ds)
-    (λ k e within. under_behind (d ∷ []) ds (slice_index_or ds k e).uri (all_under ds k e within))
+    (λ k e within. under_after (d ∷ []) ds (slice_index_or ds k e).uri (all_under ds k e within))
 
 pub all_mean : (front ds : Layer) (parents : World) → All (λ d. is_some (meant_place ((front ++ ds) ∷ parents) d.uri) ≡ true) ds
 all_mean front ds parents = λ k e within.
     by_entry (last_under (slice_index_or ds k e).uri (resources (front ++ ds))) (meant_place parents (slice_index_or ds k e).uri)
-    (under_behind front ds (slice_index_or ds k e).uri (all_under ds k e within))
+    (under_after front ds (slice_index_or ds k e).uri (all_under ds k e within))
 
 pub met_wants_stay : (layer more : Layer) (parents : World) (want : Want) → is_open (layer ∷ parents) want ≡ false → is_open ((layer ++ more) ∷ parents) want ≡ false
 met_wants_stay layer more parents want met =

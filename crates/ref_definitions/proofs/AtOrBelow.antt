@@ -5,14 +5,14 @@ use Rattle.std.proofs.lemmas.List.Elements.{All-contains, All-from_recursion, Co
 use Rattle.serde_json.specs.Data.{Data, depth}
 use Rattle.ref_paths.specs.Path.{Part}
 use Rattle.ref_draft.specs.UniqueKeys.{HasUniqueKeys}
-use Rattle.ref_draft.proofs.Apart.{PartWays, ways_differ, ways_turned, ways_behind}
+use Rattle.ref_draft.proofs.Apart.{PartWays, ways_differ, ways_turned, ways_past}
 use Rattle.ref_uri.specs.Targets.{Refusal}
 use Rattle.ref_definitions.specs.World.{Document, Layer}
 use Rattle.ref_definitions.specs.Places.{Place, root, children_of, levels_below, places}
 use Rattle.ref_definitions.specs.Wants.{faults_at, faults}
 use Rattle.ref_definitions.specs.Agreement.{IsAtOrBelow, itself, below}
 use Rattle.ref_definitions.proofs.Below.{path_on}
-use Rattle.ref_definitions.proofs.Differ.{Stands, all_stand, stand_with, Parted, parted_with, GoesOn, on_with, longer}
+use Rattle.ref_definitions.proofs.Differ.{IsThere, all_are_there, are_there_with, Parted, parted_with, GoesOn, on_with, longer}
 use Rattle.ref_definitions.proofs.Levels.{places_end}
 use Rattle.ref_definitions.proofs.Lists.{first_or_later, in_joined, none_in_nothing, in_one_of, at_first}
 
@@ -87,13 +87,13 @@ one_or_apart (p ∷ ps) x y parted at there =
 
 -- paths that go on from paths that part are not one
 no_way_back : (a b more rest : List Part) → PartWays a b → ¬ (b ++ rest ≡ a ++ more)
-no_way_back a b more rest apart = ways_differ (b ++ rest) (a ++ more) (ways_behind (b ++ rest) a more (ways_turned a (b ++ rest) (ways_behind a b rest apart)))
+no_way_back a b more rest apart = ways_differ (b ++ rest) (a ++ more) (ways_past (b ++ rest) a more (ways_turned a (b ++ rest) (ways_past a b rest apart)))
 
 child_on : (p c : Place) → Contains (children_of p) c → GoesOn p.path c.path
 child_on p c there = All-contains (λ x. GoesOn p.path x.path) (children_of p) c (All-from_recursion (λ x. GoesOn p.path x.path) (children_of p) (on_with p p.base)) there
 
-child_stands : (tree : Data) (p c : Place) → Stands tree p → Contains (children_of p) c → Stands tree c
-child_stands tree p c stands there = All-contains (Stands tree) (children_of p) c (All-from_recursion (Stands tree) (children_of p) (stand_with tree p p.base stands)) there
+child_is_there : (tree : Data) (p c : Place) → IsThere tree p → Contains (children_of p) c → IsThere tree c
+child_is_there tree p c is_at_path there = All-contains (IsThere tree) (children_of p) c (All-from_recursion (IsThere tree) (children_of p) (are_there_with tree p p.base is_at_path)) there
 
 not_above : (p c r : Place) (path : List Part) → Contains (children_of p) c → IsAtOrBelow r c → ¬ (p.path ≡ r.path ++ path)
 not_above p c r path there under is =
@@ -103,21 +103,21 @@ not_above p c r path there under is =
     (is ∙ ap (λ x. x ++ path) (more.1 ∙ ap (λ x. x ++ more.0) on.is ∙ append_assoc p.path (on.part ∷ on.rest) more.0)
     ∙ append_assoc p.path (on.part ∷ on.rest ++ more.0) path)
 
-by_path : (tree : Data) (r q : Place) (path : List Part) (p : Place) → Stands tree p → IsAtOrBelow r p → IsAtOrBelow q p → q.path ≡ r.path ++ path → IsAtOrBelow q r
-by_path tree r q path p stands itself under is = under
-by_path tree r q path p stands (below above c at over) itself is = absurd (not_above p c r path at over is)
-by_path tree r q path p stands (below above c at over) (below above' e there under) is =
+by_path : (tree : Data) (r q : Place) (path : List Part) (p : Place) → IsThere tree p → IsAtOrBelow r p → IsAtOrBelow q p → q.path ≡ r.path ++ path → IsAtOrBelow q r
+by_path tree r q path p is_at_path itself under is = under
+by_path tree r q path p is_at_path (below above c at over) itself is = absurd (not_above p c r path at over is)
+by_path tree r q path p is_at_path (below above c at over) (below above' e there under) is =
     ⊎_elim
-    (λ same. by_path tree r q path c (child_stands tree p c stands at) over (subst (λ x. IsAtOrBelow q x) (sym same) under) is)
+    (λ same. by_path tree r q path c (child_is_there tree p c is_at_path at) over (subst (λ x. IsAtOrBelow q x) (sym same) under) is)
     (λ apart.
     let first = path_on r c over in
     let second = path_on q e under in
     absurd (no_way_back c.path e.path (first.0 ++ path) second.0 apart (sym second.1 ∙ is ∙ ap (λ x. x ++ path) first.1 ∙ append_assoc c.path first.0 path)))
-    (one_or_apart (children_of p) c e (parted_with p p.base stands.unique) at there)
+    (one_or_apart (children_of p) c e (parted_with p p.base is_at_path.unique) at there)
 
 pub place_is_below : (d : Document) (r q : Place) (path : List Part) → HasUniqueKeys d.tree → Contains (places d) r → Contains (places d) q → q.path ≡ r.path ++ path → IsAtOrBelow q r
 place_is_below d r q path unique at there is =
-    by_path d.tree r q path (root d) (all_stand d unique).0 (below_root d r at) (below_root d q there) is
+    by_path d.tree r q path (root d) (all_are_there d unique).0 (below_root d r at) (below_root d q there) is
 
 -- ---- without a fault each place has a base
 

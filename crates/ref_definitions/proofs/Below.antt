@@ -10,7 +10,7 @@ use Rattle.ref_parts.specs.Pointer.{part_text}
 use Rattle.ref_draft.specs.declared.draft.Draft.{Draft}
 use Rattle.ref_draft.specs.Keywords.{is_before_2020, is_map_keyword}
 use Rattle.ref_draft.specs.Schema.{identifier}
-use Rattle.ref_draft.specs.Children.{Child, children, is_object, keyword_of, with_draft, walked_children, AllStand}
+use Rattle.ref_draft.specs.Children.{Child, children, is_object, keyword_of, with_draft, walked_children, AllAreThere}
 use Rattle.ref_draft.specs.Scan.{IsAccepted, AcceptsChildren}
 use Rattle.ref_draft.specs.ScanSteps.{scan}
 use Rattle.ref_draft.specs.Beginnings.{EndsWithin, AllEndWithin, IsMapOfSchemas, is_array}
@@ -38,13 +38,13 @@ record IsChildThere (path : List Part) (base : List ℕ) (since : List Part) (dr
   ends : (beginning rest : List Part) → of.0 ≡ beginning ++ rest → beginning ≢ [] → rest ≢ [] → EndsWithin draft since value beginning
 
 each_there : (path : List Part) (base : List ℕ) (since : List Part) (draft : Draft) (value : Data) (cs : List Child)
-    → AllStand value (map (with_draft draft) cs) → AllByRecursion HasParts cs
+    → AllAreThere value (map (with_draft draft) cs) → AllByRecursion HasParts cs
     → AllByRecursion (λ child. IsKeyAlone child.0) cs → AcceptsChildren draft since cs → AllEndWithin draft since value cs
     → AllByRecursion (IsChildThere path base since draft value) (map (child_place path base) (map (with_draft draft) cs))
-each_there path base since draft value [] stand parts alone accepts ends = tt
-each_there path base since draft value (c ∷ cs) stand parts alone accepts ends = (
-  record { of = c; is = refl; there = stand.0; parts = parts.0; alone = alone.0; accepts = accepts.0; ends = ends.0 },
-  each_there path base since draft value cs stand.1 parts.1 alone.1 accepts.1 ends.1,
+each_there path base since draft value [] are_there parts alone accepts ends = tt
+each_there path base since draft value (c ∷ cs) are_there parts alone accepts ends = (
+  record { of = c; is = refl; there = are_there.0; parts = parts.0; alone = alone.0; accepts = accepts.0; ends = ends.0 },
+  each_there path base since draft value cs are_there.1 parts.1 alone.1 accepts.1 ends.1,
 )
 
 none_there : {A : Type 0} (o : Option A) → is_some o ≡ false → o ≡ None
@@ -54,12 +54,12 @@ none_there (Some x) is = absurd (cc)
 no_children : (draft : Draft) (value : Data) → is_object value ≡ false → children draft value ≡ []
 no_children draft value is = rw (none_there (as_object value) is) refl
 
-all_there : (path : List Part) (base : List ℕ) (since : List Part) (draft : Draft) (value : Data) (b : Bool) → is_object value ≡ b → AllStand value (walked_children draft value)
+all_there : (path : List Part) (base : List ℕ) (since : List Part) (draft : Draft) (value : Data) (b : Bool) → is_object value ≡ b → AllAreThere value (walked_children draft value)
     → (is_object value ≡ true → IsAccepted draft since value) → AllByRecursion (IsChildThere path base since draft value) (map (child_place path base) (walked_children draft value))
-all_there path base since draft value true is stand ok =
-    each_there path base since draft value (children draft value) stand (children_have_parts draft value)
-    (begin_with_keys draft value) (accepts_children draft since value (ok is)) (all_end_within draft since value (ok is) stand)
-all_there path base since draft value false is stand ok =
+all_there path base since draft value true is are_there ok =
+    each_there path base since draft value (children draft value) are_there (children_have_parts draft value)
+    (begin_with_keys draft value) (accepts_children draft since value (ok is)) (all_end_within draft since value (ok is) are_there)
+all_there path base since draft value false is are_there ok =
     subst (λ cs. AllByRecursion (IsChildThere path base since draft value) (map (child_place path base) (map (with_draft draft) cs))) (sym (no_children draft value is)) tt
 
 -- ---- between a value and its child no identifier counts
@@ -95,10 +95,10 @@ fits_in_front [] rest fits = tt
 fits_in_front (Key k ∷ path) rest fits = fits_in_front path rest fits
 fits_in_front (Index i ∷ path) rest fits = (fits.0, fits_in_front path rest fits.1)
 
-fits_behind : (path rest : List Part) → HasFittingIndexes (path ++ rest) → HasFittingIndexes rest
-fits_behind [] rest fits = fits
-fits_behind (Key k ∷ path) rest fits = fits_behind path rest fits
-fits_behind (Index i ∷ path) rest fits = fits_behind path rest fits.1
+fits_after : (path rest : List Part) → HasFittingIndexes (path ++ rest) → HasFittingIndexes rest
+fits_after [] rest fits = fits
+fits_after (Key k ∷ path) rest fits = fits_after path rest fits
+fits_after (Index i ∷ path) rest fits = fits_after path rest fits.1
 
 -- a place with a child has a base
 base_of_parent : (p child : Place) (base : Result (List ℕ) Refusal) → p.base ≡ base → Contains (children_with base p) child → (uri : List ℕ) × (p.base ≡ Ok uri)
@@ -123,12 +123,12 @@ path_on q p (below above child there under) =
 -- what is asked of a place and of those below it
 pub record AreAlike (draft : Draft) (p : Place) : Type 0 where
   pub drafts : (x : Place) → IsAtOrBelow x p → x.draft ≡ draft
-  pub stand : (x : Place) → IsAtOrBelow x p → AllStand x.value (walked_children draft x.value)
+  pub are_there : (x : Place) → IsAtOrBelow x p → AllAreThere x.value (walked_children draft x.value)
   pub maps : is_before_2020 draft ≡ true → (x : Place) → IsAtOrBelow x p → HasPlainMaps draft x.value
 
 alike_child : (draft : Draft) (p child : Place) → Contains (children_of p) child → AreAlike draft p → AreAlike draft child
 alike_child draft p child there alike =
-    record { drafts = λ x under. alike.drafts x (below p child there under); stand = λ x under. alike.stand x (below p child there under); maps = λ before x under. alike.maps before x (below p child there under) }
+    record { drafts = λ x under. alike.drafts x (below p child there under); are_there = λ x under. alike.are_there x (below p child there under); maps = λ before x under. alike.maps before x (below p child there under) }
 
 -- the tokens of a path lead to a place
 pub record Reaches (draft : Draft) (pointer : List ℕ) (along : Along) (here : Data) (path : List Part) (q : Place) (uri : List ℕ) : Type 0 where
@@ -139,12 +139,12 @@ pub record Reaches (draft : Draft) (pointer : List ℕ) (along : Along) (here : 
 same_uri : (a b : List ℕ) (r : Result (List ℕ) Refusal) → r ≡ Ok a → r ≡ Ok b → a ≡ b
 same_uri a b r first second = let e : Ok a ≡ Ok b = sym first ∙ second in cc
 
-child_known : (draft : Draft) (along : Along) (p child : Place) → p.draft ≡ draft → p.base ≡ Ok along.base → AllStand p.value (walked_children draft p.value)
+child_known : (draft : Draft) (along : Along) (p child : Place) → p.draft ≡ draft → p.base ≡ Ok along.base → AllAreThere p.value (walked_children draft p.value)
     → (is_object p.value ≡ true → IsAccepted draft along.since p.value) → Contains (children_of p) child → IsChildThere p.path along.base along.since draft p.value child
-child_known draft along p child drafts base stand ok there =
+child_known draft along p child drafts base are_there ok there =
     let all = map (child_place p.path along.base) (walked_children draft p.value) in
     All-contains (IsChildThere p.path along.base along.since draft p.value) all child
-    (All-from_recursion (IsChildThere p.path along.base along.since draft p.value) all (all_there p.path along.base along.since draft p.value (is_object p.value) refl stand ok))
+    (All-from_recursion (IsChildThere p.path along.base along.since draft p.value) all (all_there p.path along.base along.since draft p.value (is_object p.value) refl are_there ok))
     (subst (λ d. Contains (map (child_place p.path along.base) (walked_children d p.value)) child) drafts (subst (λ b. Contains (children_with b p) child) base there))
 
 -- one walk after another
@@ -160,7 +160,7 @@ reach draft pointer q p itself alike along base ok path is fits final ends =
     let none : path ≡ [] = append_cancel_left q.path path [] (sym is ∙ sym (append-nil q.path)) in
     record { end = along; is = ap (λ ps. walked_along draft pointer along q.value (map part_text ps)) none; base = same_uri along.base final q.base base ends }
 reach draft pointer q p (below above child there under) alike along base ok path is fits final ends =
-    let known = child_known draft along p child (alike.drafts p itself) base (alike.stand p itself) ok there in
+    let known = child_known draft along p child (alike.drafts p itself) base (alike.are_there p itself) ok there in
     let uri = base_above q child final under ends in
     let drafts : child.draft ≡ draft = alike.drafts child (below p child there itself) in
     let detected = ap (λ (c : Place). c.draft) known.is in
@@ -175,7 +175,7 @@ reach draft pointer q p (below above child there under) alike along base ok path
     let first = lead_from draft pointer along p.value known.of.1 known.of.0 known.parts.0 known.parts.1 uri.0 known.parts.2 (fits_in_front known.of.0 more.0 all_fit) known.there
     (quiet_between draft along.since known.of.0 p.value (λ before. alike.maps before p itself) known.alone known.ends) known.accepts means in
     let rest = reach draft pointer q child under (alike_child draft p child there alike) first.next (uri.1 ∙ ap (λ u. Ok u) (sym first.base))
-    (subst (λ v. is_object v ≡ true → IsAccepted draft first.next.since v) (sym value) first.accepts) more.0 more.1 (fits_behind known.of.0 more.0 all_fit) final ends in
+    (subst (λ v. is_object v ≡ true → IsAccepted draft first.next.since v) (sym value) first.accepts) more.0 more.1 (fits_after known.of.0 more.0 all_fit) final ends in
     record {
       end = rest.end;
       is = two_walks draft pointer along p.value known.of.1 path known.of.0 uri.0 more.0 (q.value, rest.end) whole first

@@ -74,24 +74,24 @@ part_more value there v path part at child =
 -- ---- the base
 
 -- the state after one part more
-abbrev Behind : Draft → List ℕ → Data → List Part → Part → Along → Type 0
-Behind draft start value path part next = IsBaseAlong draft start value (path ++ part ∷ []) next
+abbrev Past : Draft → List ℕ → Data → List Part → Part → Along → Type 0
+Past draft start value path part next = IsBaseAlong draft start value (path ++ part ∷ []) next
 
 stays_there : (draft : Draft) (start : List ℕ) (value there : Data) (path : List Part) (part : Part) (along next : Along) → IsBaseAlong draft start value path along → value_at value (path ++ part ∷ []) ≡ Some there
-    → Stays draft along.base (along.since ++ part ∷ []) there → record { base = along.base; since = along.since ++ part ∷ [] } ≡ next → Behind draft start value path part next
-stays_there draft start value there path part along next before at stays is = subst (Behind draft start value path part) is (stayed path part along before (record { there = there; is_there = at; stays = stays }))
+    → Stays draft along.base (along.since ++ part ∷ []) there → record { base = along.base; since = along.since ++ part ∷ [] } ≡ next → Past draft start value path part next
+stays_there draft start value there path part along next before at stays is = subst (Past draft start value path part) is (stayed path part along before (record { there = there; is_there = at; stays = stays }))
 
 pub same_base : (along : Along) → moved along along.base ≡ along
 same_base along = ap (λ b. cond b along (record { base = along.base; since = [] })) ((bytes_eq-Decides along.base along.base).1 refl)
 
 by_uri : (draft : Draft) (start : List ℕ) (value there : Data) (path : List Part) (part : Part) (along next : Along) (id uri : List ℕ) (b : Bool) → IsBaseAlong draft start value path along → value_at value (path ++ part ∷ []) ≡ Some there
     → IsAccepted draft (along.since ++ part ∷ []) there → identifier draft there ≡ Some id → uri_against along.base id ≡ Ok uri → bytes_eq uri along.base ≡ b
-    → cond b (record { base = along.base; since = along.since ++ part ∷ [] }) (record { base = uri; since = [] }) ≡ next → Behind draft start value path part next
+    → cond b (record { base = along.base; since = along.since ++ part ∷ [] }) (record { base = uri; since = [] }) ≡ next → Past draft start value path part next
 by_uri draft start value there path part along next id uri true before at ok has means b is =
     stays_there draft start value there path part along next before at
     (λ other yes other_is. let same : other ≡ id = cc in ap (uri_against along.base) same ∙ means ∙ ap (λ u. Ok u) ((bytes_eq-Decides uri along.base).0 b)) is
 by_uri draft start value there path part along next id uri false before at ok has means b is =
-    subst (Behind draft start value path part) is
+    subst (Past draft start value path part) is
     (changed path part along uri before
     (record {
       there = there;
@@ -101,7 +101,7 @@ by_uri draft start value there path part along next id uri false before at ok ha
 
 by_identifier : (draft : Draft) (start : List ℕ) (value there : Data) (path : List Part) (part : Part) (along next : Along) (id : Option (List ℕ)) (b : Bool) → IsBaseAlong draft start value path along → value_at value (path ++ part ∷ []) ≡ Some there
     → scan draft (is_object there) (along.since ++ part ∷ []) ≡ b → identifier draft there ≡ id
-    → (base_within along.base (cond b id None) >>= λ uri. Ok (moved (record { base = along.base; since = along.since ++ part ∷ [] }) uri)) ≡ Ok next → Behind draft start value path part next
+    → (base_within along.base (cond b id None) >>= λ uri. Ok (moved (record { base = along.base; since = along.since ++ part ∷ [] }) uri)) ≡ Ok next → Past draft start value path part next
 by_identifier draft start value there path part along next id false before at scanned has is =
     let state : Along = record { base = along.base; since = along.since ++ part ∷ [] } in
     let same : moved state along.base ≡ next = cc in
@@ -119,7 +119,7 @@ by_identifier draft start value there path part along next (Some id) true before
     by_uri draft start value there path part along next id leads.0 (bytes_eq leads.0 along.base) before at (accepted draft there (along.since ++ part ∷ []) scanned) has leads.1 refl same
 
 pub one_part : (draft : Draft) (start : List ℕ) (value there : Data) (path : List Part) (part : Part) (along next : Along) → IsBaseAlong draft start value path along → value_at value (path ++ part ∷ []) ≡ Some there
-    → along_part draft along part there ≡ Ok next → Behind draft start value path part next
+    → along_part draft along part there ≡ Ok next → Past draft start value path part next
 one_part draft start value there path part along next before at is =
     by_identifier draft start value there path part along next (identifier draft there) (scan draft (is_object there) (along.since ++ part ∷ [])) before at refl refl is
 

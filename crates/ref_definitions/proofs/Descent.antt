@@ -11,7 +11,7 @@ use Rattle.ref_definitions.proofs.Lists.{all_of}
 
 by_parent : (before : List Place) (p : Place) (cs : List Place) → Contains before p → AllByRecursion (Contains (children_of p)) cs → AllByRecursion (IsChildOfOne before) cs
 by_parent before p [] there each = tt
-by_parent before p (c ∷ cs) there each = (record { parent = p; stands_before = there; child = each.0 }, by_parent before p cs there each.1)
+by_parent before p (c ∷ cs) there each = (record { parent = p; comes_before = there; child = each.0 }, by_parent before p cs there each.1)
 
 by_level : (before ps : List Place) → AllByRecursion (Contains before) ps → AllByRecursion (IsChildOfOne before) (flat_map children_of ps)
 by_level before [] there = tt
@@ -22,7 +22,7 @@ by_level before (p ∷ ps) there =
 later : (before more ps : List Place) → AllByRecursion (IsChildOfOne before) ps → AllByRecursion (IsChildOfOne (before ++ more)) ps
 later before more [] each = tt
 later before more (p ∷ ps) each =
-    (record { parent = each.0.parent; stands_before = Contains-append_left before more each.0.parent each.0.stands_before; child = each.0.child }, later before more ps each.1)
+    (record { parent = each.0.parent; comes_before = Contains-append_left before more each.0.parent each.0.comes_before; child = each.0.child }, later before more ps each.1)
 
 are_children : (before ps : List Place) → AllByRecursion (IsChildOfOne before) ps → AreChildren before ps
 are_children before [] each = tt

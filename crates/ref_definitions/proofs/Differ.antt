@@ -5,15 +5,15 @@ use Rattle.std.proofs.lemmas.List.{append-nil}
 use Rattle.serde_json.specs.Data.{Data, depth}
 use Rattle.ref_paths.specs.Path.{Part, value_at}
 use Rattle.ref_draft.specs.declared.draft.Draft.{Draft}
-use Rattle.ref_draft.specs.Children.{Child, children, with_draft, AllStand}
+use Rattle.ref_draft.specs.Children.{Child, children, with_draft, AllAreThere}
 use Rattle.ref_draft.specs.UniqueKeys.{HasUniqueKeys}
 use Rattle.ref_draft.proofs.Lists.{all_append, all_map}
-use Rattle.ref_draft.proofs.Unique.{children_stand, unique_children}
-use Rattle.ref_draft.proofs.Apart.{PartWays, ways_differ, ways_turned, ways_behind, ways_after, AllPart, children_part, HasParts, children_have_parts}
+use Rattle.ref_draft.proofs.Unique.{children_are_there, unique_children}
+use Rattle.ref_draft.proofs.Apart.{PartWays, ways_differ, ways_turned, ways_past, ways_after, AllPart, children_part, HasParts, children_have_parts}
 use Rattle.ref_uri.specs.Targets.{Refusal}
 use Rattle.ref_definitions.specs.World.{Document}
 use Rattle.ref_definitions.specs.Places.{Place, root, child_place, children_with, children_of, levels_below, places}
-use Rattle.ref_definitions.specs.Agreement.{ChildrenStand}
+use Rattle.ref_definitions.specs.Agreement.{ChildrenAreThere}
 use Rattle.ref_definitions.proofs.Changes.{value_at-append}
 use Rattle.ref_definitions.proofs.Lists.{each_in}
 use Rattle.ref_definitions.proofs.Induction.{level_induct, places_induct}
@@ -21,36 +21,36 @@ use Rattle.ref_definitions.proofs.Induction.{level_induct, places_induct}
 -- ---- values at paths
 
 -- a place is in a tree, and below it objects have each key once
-pub record Stands (tree : Data) (p : Place) : Type 0 where
+pub record IsThere (tree : Data) (p : Place) : Type 0 where
   pub there : value_at tree p.path ≡ Some p.value
   pub unique : HasUniqueKeys p.value
 
-stand_children : (tree : Data) (path : List Part) (value : Data) (base : List ℕ) (draft : Draft) (cs : List Child) → value_at tree path ≡ Some value
-    → AllStand value (map (with_draft draft) cs) → AllByRecursion (λ child. HasUniqueKeys child.1) cs → AllByRecursion (Stands tree) (map (child_place path base) (map (with_draft draft) cs))
-stand_children tree path value base draft [] there stand unique = tt
-stand_children tree path value base draft (c ∷ cs) there stand unique = (
-  record { there = value_at-append tree path c.0 ∙ ap (option_and_then (λ e. value_at e c.0)) there ∙ stand.0; unique = unique.0 },
-  stand_children tree path value base draft cs there stand.1 unique.1,
+are_there_children : (tree : Data) (path : List Part) (value : Data) (base : List ℕ) (draft : Draft) (cs : List Child) → value_at tree path ≡ Some value
+    → AllAreThere value (map (with_draft draft) cs) → AllByRecursion (λ child. HasUniqueKeys child.1) cs → AllByRecursion (IsThere tree) (map (child_place path base) (map (with_draft draft) cs))
+are_there_children tree path value base draft [] there are_there unique = tt
+are_there_children tree path value base draft (c ∷ cs) there are_there unique = (
+  record { there = value_at-append tree path c.0 ∙ ap (option_and_then (λ e. value_at e c.0)) there ∙ are_there.0; unique = unique.0 },
+  are_there_children tree path value base draft cs there are_there.1 unique.1,
 )
 
-pub stand_with : (tree : Data) (p : Place) (base : Result (List ℕ) Refusal) → Stands tree p → AllByRecursion (Stands tree) (children_with base p)
-stand_with tree p (Ok base) stands =
-    stand_children tree p.path p.value base p.draft (children p.draft p.value) stands.there (children_stand p.draft p.value stands.unique) (unique_children p.draft p.value stands.unique)
-stand_with tree p (Err refusal) stands = tt
+pub are_there_with : (tree : Data) (p : Place) (base : Result (List ℕ) Refusal) → IsThere tree p → AllByRecursion (IsThere tree) (children_with base p)
+are_there_with tree p (Ok base) is_at_path =
+    are_there_children tree p.path p.value base p.draft (children p.draft p.value) is_at_path.there (children_are_there p.draft p.value is_at_path.unique) (unique_children p.draft p.value is_at_path.unique)
+are_there_with tree p (Err refusal) is_at_path = tt
 
-stand_level : (tree : Data) (ps : List Place) → AllByRecursion (Stands tree) ps → AllByRecursion (Stands tree) (flat_map children_of ps)
-stand_level tree ps stand = level_induct (Stands tree) (λ p stands. stand_with tree p p.base stands) ps stand
+are_there_level : (tree : Data) (ps : List Place) → AllByRecursion (IsThere tree) ps → AllByRecursion (IsThere tree) (flat_map children_of ps)
+are_there_level tree ps are_there = level_induct (IsThere tree) (λ p is_at_path. are_there_with tree p p.base is_at_path) ps are_there
 
-pub all_stand : (d : Document) → HasUniqueKeys d.tree → AllByRecursion (Stands d.tree) (places d)
-all_stand d unique = places_induct (Stands d.tree) (λ p stands. stand_with d.tree p p.base stands) d (record { there = refl; unique = unique })
+pub all_are_there : (d : Document) → HasUniqueKeys d.tree → AllByRecursion (IsThere d.tree) (places d)
+all_are_there d unique = places_induct (IsThere d.tree) (λ p is_at_path. are_there_with d.tree p p.base is_at_path) d (record { there = refl; unique = unique })
 
-pub places_stand : (d : Document) → HasUniqueKeys d.tree → AllByRecursion (λ p. value_at d.tree p.path ≡ Some p.value) (places d)
-places_stand d unique = all_map (Stands d.tree) (λ p. value_at d.tree p.path ≡ Some p.value) (places d) (λ p stands. stands.there) (all_stand d unique)
+pub places_are_there : (d : Document) → HasUniqueKeys d.tree → AllByRecursion (λ p. value_at d.tree p.path ≡ Some p.value) (places d)
+places_are_there d unique = all_map (IsThere d.tree) (λ p. value_at d.tree p.path ≡ Some p.value) (places d) (λ p is_at_path. is_at_path.there) (all_are_there d unique)
 
-pub places_children_stand : (d : Document) → HasUniqueKeys d.tree → ChildrenStand d
-places_children_stand d unique p there =
-    let stands = each_in (Stands d.tree) (places d) p (all_stand d unique) there in
-    children_stand p.draft p.value stands.unique
+pub children_of_places_are_there : (d : Document) → HasUniqueKeys d.tree → ChildrenAreThere d
+children_of_places_are_there d unique p there =
+    let is_at_path = each_in (IsThere d.tree) (places d) p (all_are_there d unique) there in
+    children_are_there p.draft p.value is_at_path.unique
 
 -- ---- paths of one level
 
@@ -109,7 +109,7 @@ on_with p (Err refusal) = tt
 
 -- a path that parts from a place's parts from those that go on from it
 parts_from_on : (a : List Part) (p : Place) (q : Place) → PartWays a p.path → GoesOn p.path q.path → PartWays a q.path
-parts_from_on a p q part on = subst (PartWays a) (sym on.is) (ways_behind a p.path (on.part ∷ on.rest) part)
+parts_from_on a p q part on = subst (PartWays a) (sym on.is) (ways_past a p.path (on.part ∷ on.rest) part)
 
 parts_from_level : (a : List Part) (ps : List Place) → AllByRecursion (λ p. PartWays a p.path) ps → AllByRecursion (λ q. PartWays a q.path) (flat_map children_of ps)
 parts_from_level a [] part = tt
@@ -117,11 +117,11 @@ parts_from_level a (p ∷ ps) part =
     all_append (λ q. PartWays a q.path) (children_of p) (flat_map children_of ps)
     (all_map (λ q. GoesOn p.path q.path) (λ q. PartWays a q.path) (children_of p) (λ q on. parts_from_on a p q part.0 on) (on_with p p.base)) (parts_from_level a ps part.1)
 
-parted_level : (tree : Data) (ps : List Place) → AllByRecursion (Stands tree) ps → Parted ps → Parted (flat_map children_of ps)
-parted_level tree [] stand part = tt
-parted_level tree (p ∷ ps) stand part =
+parted_level : (tree : Data) (ps : List Place) → AllByRecursion (IsThere tree) ps → Parted ps → Parted (flat_map children_of ps)
+parted_level tree [] are_there part = tt
+parted_level tree (p ∷ ps) are_there part =
     let next = flat_map children_of ps in
-    parted_append (children_of p) next (parted_with p p.base stand.0.unique) (parted_level tree ps stand.1 part.1)
+    parted_append (children_of p) next (parted_with p p.base are_there.0.unique) (parted_level tree ps are_there.1 part.1)
     (all_map (λ q. GoesOn p.path q.path) (λ x. AllByRecursion (λ y. PartWays x.path y.path) next) (children_of p)
     (λ x on. all_map (λ y. PartWays p.path y.path) (λ y. PartWays x.path y.path) next
     (λ y part_from. ways_turned y.path x.path (parts_from_on y.path p x (ways_turned p.path y.path part_from) on)) (parts_from_level p.path ps part.0)) (on_with p p.base))
@@ -189,13 +189,13 @@ from_first (p ∷ ps) qs across first second = (
   from_first ps qs (all_map (λ q. AllByRecursion (λ r. ¬ (r.path ≡ q.path)) (p ∷ ps)) (λ q. AllByRecursion (λ r. ¬ (r.path ≡ q.path)) ps) qs (λ q all. all.1) across) first.1 second,
 )
 
-differ_below : (tree : Data) (n : ℕ) (ps : List Place) → AllByRecursion (Stands tree) ps → Parted ps → AllDiffer (ps ++ levels_below n ps)
-differ_below tree zero ps stand part = subst AllDiffer (sym (append-nil ps)) (differ_level ps part)
-differ_below tree (suc n) ps stand part =
+differ_below : (tree : Data) (n : ℕ) (ps : List Place) → AllByRecursion (IsThere tree) ps → Parted ps → AllDiffer (ps ++ levels_below n ps)
+differ_below tree zero ps are_there part = subst AllDiffer (sym (append-nil ps)) (differ_level ps part)
+differ_below tree (suc n) ps are_there part =
     let cs = flat_map children_of ps in
     from_first ps (cs ++ levels_below n cs)
     (all_map (Below ps) (λ q. AllByRecursion (λ p. ¬ (p.path ≡ q.path)) ps) (cs ++ levels_below n cs) (λ q on. none_of_level ps q part on) (all_below (suc n) ps))
-    (differ_level ps part) (differ_below tree n cs (stand_level tree ps stand) (parted_level tree ps stand part))
+    (differ_level ps part) (differ_below tree n cs (are_there_level tree ps are_there) (parted_level tree ps are_there part))
 
 -- ---- as pairs of a list
 

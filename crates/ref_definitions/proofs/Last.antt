@@ -38,8 +38,8 @@ one_right (Some x) p there = refl
 pub last_stays : {X : Type 0} (xs ys : List X) → is_some (last_or None xs) ≡ true → is_some (last_or None (xs ++ ys)) ≡ true
 last_stays xs ys there = ap is_some (last_of_both xs ys) ∙ one_right (last_or None ys) (last_or None xs) there
 
-pub last_behind : {X : Type 0} (xs ys : List X) → is_some (last_or None ys) ≡ true → is_some (last_or None (xs ++ ys)) ≡ true
-last_behind xs ys there = ap is_some (last_of_both xs ys) ∙ one_left (last_or None ys) (last_or None xs) there
+pub last_after : {X : Type 0} (xs ys : List X) → is_some (last_or None ys) ≡ true → is_some (last_or None (xs ++ ys)) ≡ true
+last_after xs ys there = ap is_some (last_of_both xs ys) ∙ one_left (last_or None ys) (last_or None xs) there
 
 pub last_under_both : (uri : List ℕ) (entries more : List (List ℕ × Place)) → last_under uri (entries ++ more) ≡ option_or (last_under uri more) (last_under uri entries)
 last_under_both uri entries more =

@@ -9,7 +9,7 @@ use Rattle.ref_parts.specs.Pointer.{slash, part_text, pointer_text, tokens}
 use Rattle.ref_parts.specs.Encoded.{encoded_text}
 use Rattle.ref_parts.proofs.EncodedLaws.{decoded_is}
 use Rattle.ref_parts.proofs.PathLaws.{tokens_of_path}
-use Rattle.ref_draft.specs.Children.{AllStand, walked_children}
+use Rattle.ref_draft.specs.Children.{AllAreThere, walked_children}
 use Rattle.ref_definitions.specs.Results.{◌>>=◌}
 use Rattle.ref_definitions.specs.World.{Document, Layer, World}
 use Rattle.ref_definitions.specs.Places.{Place}
@@ -18,7 +18,7 @@ use Rattle.ref_definitions.specs.Fault.{InvalidPercentEncoding, not_retrieved}
 use Rattle.ref_definitions.specs.Bases.{Along}
 use Rattle.ref_definitions.specs.Pointers.{walked_along}
 use Rattle.ref_definitions.specs.Lookup.{Resolver, pointer_found, at_fragment, lookup, located_value}
-use Rattle.ref_definitions.specs.Agreement.{ChildrenStand, IsAtOrBelow, IsReadAlike, IsPathOfTexts, LeadsTo}
+use Rattle.ref_definitions.specs.Agreement.{ChildrenAreThere, IsAtOrBelow, IsReadAlike, IsPathOfTexts, LeadsTo}
 use Rattle.ref_definitions.proofs.Alone.{means_alone, bears}
 use Rattle.ref_definitions.proofs.Agreement.{start_accepted}
 use Rattle.ref_definitions.proofs.Below.{Reaches, reach}
@@ -51,13 +51,13 @@ looked_up world uri path r is =
     ap (λ o. ok_or o (not_retrieved uri) >>= λ place. at_fragment world (record { base = uri; scope = uri ∷ [] }) place (encoded_text (pointer_text path))) is
 
 pub leads_to : (layer : Layer) (parents : World) (d : Document) (r q : Place) (uri : List ℕ) (path : List Part)
-    → ChildrenStand d → IsReadAlike layer d r uri → IsAtOrBelow q r → q.path ≡ r.path ++ path → IsPathOfTexts path → LeadsTo (layer ∷ parents) uri path q
-leads_to layer parents d r q uri path stand alike under is texts final base =
+    → ChildrenAreThere d → IsReadAlike layer d r uri → IsAtOrBelow q r → q.path ≡ r.path ++ path → IsPathOfTexts path → LeadsTo (layer ∷ parents) uri path q
+leads_to layer parents d r q uri path are_there alike under is texts final base =
     let m : Resolver = record { base = uri; scope = uri ∷ [] } in
     let own = means_alone layer parents uri r (bears layer d r uri alike.document alike.place alike.resource alike.base) alike.alone in
-    let standing : (x : Place) → IsAtOrBelow x r → AllStand x.value (walked_children r.draft x.value) =
-    λ x over. subst (λ draft. AllStand x.value (walked_children draft x.value)) (alike.one_draft x over) (stand x (below_is_place d x r alike.place over)) in
+    let are_at_paths : (x : Place) → IsAtOrBelow x r → AllAreThere x.value (walked_children r.draft x.value) =
+    λ x over. subst (λ draft. AllAreThere x.value (walked_children draft x.value)) (alike.one_draft x over) (are_there x (below_is_place d x r alike.place over)) in
     looked_up (layer ∷ parents) uri path r own
     ∙ in_resource (layer ∷ parents) m r q path final texts
-    (λ pointer. reach r.draft pointer q r under (record { drafts = alike.one_draft; stand = standing; maps = alike.plain_maps }) (record { base = uri; since = [] }) alike.base (λ there. start_accepted r.draft r.value) path is texts.fits final base)
+    (λ pointer. reach r.draft pointer q r under (record { drafts = alike.one_draft; are_there = are_at_paths; maps = alike.plain_maps }) (record { base = uri; since = [] }) alike.base (λ there. start_accepted r.draft r.value) path is texts.fits final base)
     ∙ ap (λ d. Ok (record { value = q.value; draft = d; resolver = record { base = final; scope = uri ∷ [] } })) (sym (alike.one_draft q under))

@@ -19,14 +19,14 @@ use Rattle.ref_definitions.specs.Fault.{Fault, as_invalid_uri, not_retrieved}
 use Rattle.ref_definitions.specs.Bases.{Along}
 use Rattle.ref_definitions.specs.Pointers.{pointed_value}
 use Rattle.ref_definitions.specs.Lookup.{Resolver, Found, moved_resolver, in_subresource, in_scope, fault_of, entry_of, is_dynamic, unless_fault, entry_found, outermost, dynamically, named_found, pointer_found, at_fragment, lookup}
-use Rattle.ref_definitions.specs.Recursive.{is_marked, answers_marked, looked_up, behind_beginning, unless_fault_behind, outermost_marked, lookup_recursive}
-use Rattle.ref_definitions.specs.Agreement.{ChildrenStand}
-use Rattle.ref_definitions.specs.Parts.{IsPartOf, AllDocuments, AllChildrenStand, AllHaveUniqueKeys}
+use Rattle.ref_definitions.specs.Recursive.{is_marked, answers_marked, looked_up, after_beginning, unless_fault_after, outermost_marked, lookup_recursive}
+use Rattle.ref_definitions.specs.Agreement.{ChildrenAreThere}
+use Rattle.ref_definitions.specs.Parts.{IsPartOf, AllDocuments, AllChildrenAreThere, AllHaveUniqueKeys}
 use Rattle.ref_definitions.proofs.Lists.{each_in, all_of, all_joined, last_of_all}
 use Rattle.ref_definitions.proofs.Options.{if_ok_by, if_bound, if_any, if_ok_or, if_chosen, some_any, some_either, unwrapped}
 use Rattle.ref_definitions.proofs.Changes.{value_at-append, pointer_leads}
-use Rattle.ref_definitions.proofs.Differ.{places_children_stand}
-use Rattle.ref_definitions.proofs.Standing.{all_stand_where}
+use Rattle.ref_definitions.proofs.Differ.{children_of_places_are_there}
+use Rattle.ref_definitions.proofs.Standing.{all_are_there_where}
 
 -- it holds of the value of each place of a document
 abbrev pub HoldsInPlaces : (Data → Type 0) → Document → Type 0
@@ -186,14 +186,14 @@ module _ (P : Data → Type 0) (next : GoesToParts P) where
   all_looked_up world r [] each = tt
   all_looked_up world r (uri ∷ uris) each = (of_lookup world r uri each, all_looked_up world r uris each)
 
-  no_fault_behind : (rest : List (Result Found Fault)) (answer : Result Found Fault) → OfAnswer answer → OfAnswer (unless_fault_behind rest answer)
-  no_fault_behind [] answer h = h
-  no_fault_behind (Ok found ∷ rest) answer h = h
-  no_fault_behind (Err fault ∷ rest) answer h = tt
+  no_fault_after : (rest : List (Result Found Fault)) (answer : Result Found Fault) → OfAnswer answer → OfAnswer (unless_fault_after rest answer)
+  no_fault_after [] answer h = h
+  no_fault_after (Ok found ∷ rest) answer h = h
+  no_fault_after (Err fault ∷ rest) answer h = tt
 
   of_marked : (first : Result Found Fault) (answers : List (Result Found Fault)) → OfAnswer first → AllByRecursion OfAnswer answers → OfAnswer (outermost_marked first answers)
   of_marked first answers h each =
-      no_fault_behind (behind_beginning answers) _
+      no_fault_after (after_beginning answers) _
       (unwrapped OfAnswer (last_or None (take_while answers_marked answers)) first (last_of_all OfAnswer None (take_while answers_marked answers) tt (beginning answers each)) h)
 
   pub of_recursive : (world : World) (r : Resolver) → AllDocuments (HoldsInPlaces P) world → IfOk (lookup_recursive world r) (λ found. P found.value)
@@ -217,32 +217,32 @@ part_goes_on world value there part child is = record {
 }
 
 -- of a document of the world
-of_document : (world : World) (layer : Layer) (d : Document) → Contains world layer → Contains layer d → ChildrenStand d → HoldsInPlaces (IsPartOf world) d
-of_document world layer d there at stand =
+of_document : (world : World) (layer : Layer) (d : Document) → Contains world layer → Contains layer d → ChildrenAreThere d → HoldsInPlaces (IsPartOf world) d
+of_document world layer d there at are_there =
     all_map (λ p. value_at d.tree p.path ≡ Some p.value) (λ p. IsPartOf world p.value) (places d)
-    (λ p is. record { layer = layer; document = d; path = p.path; in_world = there; in_layer = at; there = is }) (all_stand_where d stand)
+    (λ p is. record { layer = layer; document = d; path = p.path; in_world = there; in_layer = at; there = is }) (all_are_there_where d are_there)
 
-of_documents : (world : World) (layer : Layer) → Contains world layer → AllByRecursion ChildrenStand layer → AllByRecursion (HoldsInPlaces (IsPartOf world)) layer
-of_documents world layer there stand =
-    all_of (HoldsInPlaces (IsPartOf world)) layer (λ d at. of_document world layer d there at (each_in ChildrenStand layer d stand at))
+of_documents : (world : World) (layer : Layer) → Contains world layer → AllByRecursion ChildrenAreThere layer → AllByRecursion (HoldsInPlaces (IsPartOf world)) layer
+of_documents world layer there are_there =
+    all_of (HoldsInPlaces (IsPartOf world)) layer (λ d at. of_document world layer d there at (each_in ChildrenAreThere layer d are_there at))
 
-of_world : (world : World) → AllChildrenStand world → AllDocuments (HoldsInPlaces (IsPartOf world)) world
-of_world world stand =
-    all_of (AllByRecursion (HoldsInPlaces (IsPartOf world))) world (λ layer there. of_documents world layer there (each_in (AllByRecursion ChildrenStand) world layer stand there))
+of_world : (world : World) → AllChildrenAreThere world → AllDocuments (HoldsInPlaces (IsPartOf world)) world
+of_world world are_there =
+    all_of (AllByRecursion (HoldsInPlaces (IsPartOf world))) world (λ layer there. of_documents world layer there (each_in (AllByRecursion ChildrenAreThere) world layer are_there there))
 
 if_it_is : {A E : Type 0} (P : A → Type 0) (r : Result A E) (x : A) → r ≡ Ok x → IfOk r P → P x
 if_it_is P r x is h = subst (λ s. IfOk s P) is h
 
-pub looked_up_is_part : (world : World) (r : Resolver) (reference : List ℕ) (found : Found) → AllChildrenStand world → lookup world r reference ≡ Ok found → IsPartOf world found.value
-looked_up_is_part world r reference found stand is =
-    if_it_is (λ f. IsPartOf world f.value) (lookup world r reference) found is (of_lookup (IsPartOf world) (part_goes_on world) world r reference (of_world world stand))
+pub looked_up_is_part : (world : World) (r : Resolver) (reference : List ℕ) (found : Found) → AllChildrenAreThere world → lookup world r reference ≡ Ok found → IsPartOf world found.value
+looked_up_is_part world r reference found are_there is =
+    if_it_is (λ f. IsPartOf world f.value) (lookup world r reference) found is (of_lookup (IsPartOf world) (part_goes_on world) world r reference (of_world world are_there))
 
-pub recursive_is_part : (world : World) (r : Resolver) (found : Found) → AllChildrenStand world → lookup_recursive world r ≡ Ok found → IsPartOf world found.value
-recursive_is_part world r found stand is =
-    if_it_is (λ f. IsPartOf world f.value) (lookup_recursive world r) found is (of_recursive (IsPartOf world) (part_goes_on world) world r (of_world world stand))
+pub recursive_is_part : (world : World) (r : Resolver) (found : Found) → AllChildrenAreThere world → lookup_recursive world r ≡ Ok found → IsPartOf world found.value
+recursive_is_part world r found are_there is =
+    if_it_is (λ f. IsPartOf world f.value) (lookup_recursive world r) found is (of_recursive (IsPartOf world) (part_goes_on world) world r (of_world world are_there))
 
 -- where each object has each key once, children are at their paths
-pub unique_stand : (world : World) → AllHaveUniqueKeys world → AllChildrenStand world
-unique_stand world unique =
-    all_map (AllByRecursion (λ d. HasUniqueKeys d.tree)) (AllByRecursion ChildrenStand) world
-    (λ layer each. all_map (λ d. HasUniqueKeys d.tree) ChildrenStand layer (λ d h. places_children_stand d h) each) unique
+pub unique_are_there : (world : World) → AllHaveUniqueKeys world → AllChildrenAreThere world
+unique_are_there world unique =
+    all_map (AllByRecursion (λ d. HasUniqueKeys d.tree)) (AllByRecursion ChildrenAreThere) world
+    (λ layer each. all_map (λ d. HasUniqueKeys d.tree) ChildrenAreThere layer (λ d h. children_of_places_are_there d h) each) unique

@@ -181,17 +181,17 @@ base_faults draft pointer along value token part there fault reads at is =
 record Reads (draft : Draft) (start : List ℕ) (value here found : Data) (path : List Part) (end : Along) (tokens : List (List ℕ)) : Type 0 where
   rest : List Part
   reads : IsReadAs here tokens rest
-  stands : value_at value (path ++ rest) ≡ Some found
+  is_at_path : value_at value (path ++ rest) ≡ Some found
   bases : IsBaseAlong draft start value (path ++ rest) end
 
-reads_behind : (draft : Draft) (start : List ℕ) (value here there found : Data) (path : List Part) (part : Part) (end : Along) (t : List ℕ) (ts : List (List ℕ)) → IsReadAsPart here t part → child_at here part ≡ Some there
+reads_past : (draft : Draft) (start : List ℕ) (value here there found : Data) (path : List Part) (part : Part) (end : Along) (t : List ℕ) (ts : List (List ℕ)) → IsReadAsPart here t part → child_at here part ≡ Some there
     → Reads draft start value there found (path ++ part ∷ []) end ts → Reads draft start value here found path end (t ∷ ts)
-reads_behind draft start value here there found path part end t ts reads at more =
+reads_past draft start value here there found path part end t ts reads at more =
     let same : (path ++ part ∷ []) ++ more.rest ≡ path ++ part ∷ more.rest = append_assoc path (part ∷ []) more.rest in
     record {
       rest = part ∷ more.rest;
       reads = (reads, (there, at, more.reads));
-      stands = subst (λ p. value_at value p ≡ Some found) same more.stands;
+      is_at_path = subst (λ p. value_at value p ≡ Some found) same more.is_at_path;
       bases = subst (λ p. IsBaseAlong draft start value p end) same more.bases;
     }
 
@@ -204,7 +204,7 @@ walk_reads draft pointer start value here found path along end [] before at is =
     record {
       rest = [];
       reads = tt;
-      stands = subst (λ p. value_at value p ≡ Some found) same (at ∙ ap (λ (p : Data × Along). Some p.0) both);
+      is_at_path = subst (λ p. value_at value p ≡ Some found) same (at ∙ ap (λ (p : Data × Along). Some p.0) both);
       bases = subst (λ p. IsBaseAlong draft start value p end) same (subst (λ (p : Data × Along). IsBaseAlong draft start value path p.1) both before);
     }
 walk_reads draft pointer start value here found path along end (t ∷ ts) before at is =
@@ -212,7 +212,7 @@ walk_reads draft pointer start value here found path along end (t ∷ ts) before
     let base = first_answers (as_invalid_uri (along_part draft along step.0.0 step.0.1)) (λ next. walked_along draft pointer next step.0.1 ts) (found, end) step.2 in
     let child = step_leads pointer here t step.0 step.1 in
     let there = part_more value step.0.1 here path step.0.0 at child in
-    reads_behind draft start value here step.0.1 found path step.0.0 end t ts (step_reads pointer here t step.0 step.1) child
+    reads_past draft start value here step.0.1 found path step.0.0 end t ts (step_reads pointer here t step.0 step.1) child
     (walk_reads draft pointer start value step.0.1 found (path ++ step.0.0 ∷ []) base.0 end ts
     (one_part draft start value step.0.1 path step.0.0 along base.0 before there (uri_answers (along_part draft along step.0.0 step.0.1) base.0 base.1)) there base.2)
 
@@ -225,7 +225,7 @@ record Faults (draft : Draft) (pointer start : List ℕ) (value here : Data) (pa
   rest : List Part
   reads : IsReadAs here before rest
   there : Data
-  stands : value_at value (path ++ rest) ≡ Some there
+  is_at_path : value_at value (path ++ rest) ≡ Some there
   along : Along
   bases : IsBaseAlong draft start value (path ++ rest) along
   faulty : IsFaultAt draft pointer along there token fault
@@ -242,7 +242,7 @@ at_once draft pointer start value here path along t ts fault base at faulty =
       rest = [];
       reads = tt;
       there = here;
-      stands = subst (λ p. value_at value p ≡ Some here) same at;
+      is_at_path = subst (λ p. value_at value p ≡ Some here) same at;
       along = along;
       bases = subst (λ p. IsBaseAlong draft start value p along) same base;
       faulty = faulty;
@@ -260,7 +260,7 @@ behind draft pointer start value here there path part t ts fault reads at more =
       rest = part ∷ more.rest;
       reads = (reads, (there, at, more.reads));
       there = more.there;
-      stands = subst (λ p. value_at value p ≡ Some more.there) same more.stands;
+      is_at_path = subst (λ p. value_at value p ≡ Some more.there) same more.is_at_path;
       along = more.along;
       bases = subst (λ p. IsBaseAlong draft start value p more.along) same more.bases;
       faulty = more.faulty;
@@ -275,11 +275,11 @@ past_step : (draft : Draft) (pointer start : List ℕ) (value here : Data) (path
 past_step draft pointer start value here path along part there t ts fault before at stepped is on =
     let reads = step_reads pointer here t (part, there) stepped in
     let child = step_leads pointer here t (part, there) stepped in
-    let stands = part_more value there here path part at child in
+    let is_at_path = part_more value there here path part at child in
     ⊎_elim
     (λ refused. at_once draft pointer start value here path along t ts fault before at (base_faults draft pointer along here t part there fault reads child refused))
     (λ base. behind draft pointer start value here there path part t ts fault reads child
-    (on base.0 (one_part draft start value there path part along base.0 before stands (uri_answers (along_part draft along part there) base.0 base.1)) stands base.2))
+    (on base.0 (one_part draft start value there path part along base.0 before is_at_path (uri_answers (along_part draft along part there) base.0 base.1)) is_at_path base.2))
     (which_fault (as_invalid_uri (along_part draft along part there)) (λ next. walked_along draft pointer next there ts) fault is)
 
 walk_faults : (draft : Draft) (pointer start : List ℕ) (value here : Data) (path : List Part) (along : Along) (ts : List (List ℕ)) (fault : Fault) → IsBaseAlong draft start value path along → value_at value path ≡ Some here
@@ -301,13 +301,13 @@ record Ends (value : Data) (ts : List (List ℕ)) (path : List Part) (part : Par
   are : ts ≡ before ++ token ∷ []
   reads : IsReadAs value before path
   here : Data
-  stands : value_at value path ≡ Some here
+  is_at_path : value_at value path ≡ Some here
   last : IsReadAsPart here token part
 
 ends_with : (value : Data) (ts : List (List ℕ)) (path : List Part) (part : Part) → IsReadAs value ts (path ++ part ∷ []) → Ends value ts path part
 ends_with value [] [] part reads = absurd reads
 ends_with value [] (x ∷ path) part reads = absurd reads
-ends_with value (t ∷ []) [] part reads = record { before = []; token = t; are = refl; reads = tt; here = value; stands = refl; last = reads.0 }
+ends_with value (t ∷ []) [] part reads = record { before = []; token = t; are = refl; reads = tt; here = value; is_at_path = refl; last = reads.0 }
 ends_with value (t ∷ u ∷ ts) [] part reads = absurd reads.1.2
 ends_with value (t ∷ ts) (x ∷ path) part reads =
     let more = ends_with reads.1.0 ts path part reads.1.2 in
@@ -317,7 +317,7 @@ ends_with value (t ∷ ts) (x ∷ path) part reads =
       are = ap (λ us. t ∷ us) more.are;
       reads = (reads.0, (reads.1.0, reads.1.1, more.reads));
       here = more.here;
-      stands = ap (option_and_then (λ e. value_at e path)) reads.1.1 ∙ more.stands;
+      is_at_path = ap (option_and_then (λ e. value_at e path)) reads.1.1 ∙ more.is_at_path;
       last = more.last;
     }
 
@@ -334,13 +334,13 @@ one_more : (draft : Draft) (pointer start : List ℕ) (value there : Data) (path
     → value_at value (path ++ part ∷ []) ≡ Some there → along_part draft along part there ≡ Ok next
     → (ts more : List (List ℕ)) (found : Data) → IsReadAs value ts (path ++ part ∷ []) → value_at value (path ++ part ∷ []) ≡ Some found
     → walked_along draft pointer (record { base = start; since = [] }) value (ts ++ more) ≡ walked_along draft pointer next found more
-one_more draft pointer start value there path part along next walks at is ts more found reads stands =
+one_more draft pointer start value there path part along next walks at is ts more found reads is_at_path =
     let ends = ends_with value ts path part reads in
-    let child : child_at ends.here part ≡ Some there = child_there value ends.here there path part ends.stands at in
-    let same : there ≡ found = one_value there found (value_at value (path ++ part ∷ [])) at stands in
+    let child : child_at ends.here part ≡ Some there = child_there value ends.here there path part ends.is_at_path at in
+    let same : there ≡ found = one_value there found (value_at value (path ++ part ∷ [])) at is_at_path in
     ap (λ us. walked_along draft pointer (record { base = start; since = [] }) value (us ++ more)) ends.are
     ∙ ap (walked_along draft pointer (record { base = start; since = [] }) value) (append_assoc ends.before (ends.token ∷ []) more)
-    ∙ walks ends.before (ends.token ∷ more) ends.here ends.reads ends.stands
+    ∙ walks ends.before (ends.token ∷ more) ends.here ends.reads ends.is_at_path
     ∙ ap (λ r. r >>= λ s. as_invalid_uri (along_part draft along s.0 s.1) >>= λ n. walked_along draft pointer n s.1 more) (reads_step pointer ends.here ends.token part there ends.last child)
     ∙ ap (λ r. as_invalid_uri r >>= λ n. walked_along draft pointer n there more) is
     ∙ ap (λ v. walked_along draft pointer next v more) same
@@ -348,14 +348,14 @@ one_more draft pointer start value there path part along next walks at is ts mor
 walks_to : (draft : Draft) (pointer start : List ℕ) (value : Data) (path : List Part) (along : Along) → IsBaseAlong draft start value path along
     → (ts more : List (List ℕ)) (here : Data) → IsReadAs value ts path → value_at value path ≡ Some here
     → walked_along draft pointer (record { base = start; since = [] }) value (ts ++ more) ≡ walked_along draft pointer along here more
-walks_to draft pointer start value path along begun [] more here reads stands = let same : value ≡ here = cc in ap (λ v. walked_along draft pointer (record { base = start; since = [] }) v more) same
-walks_to draft pointer start value path along begun (t ∷ ts) more here reads stands = absurd reads
-walks_to draft pointer start value p a (stayed path part along before step) ts more here reads stands =
+walks_to draft pointer start value path along begun [] more here reads is_at_path = let same : value ≡ here = cc in ap (λ v. walked_along draft pointer (record { base = start; since = [] }) v more) same
+walks_to draft pointer start value path along begun (t ∷ ts) more here reads is_at_path = absurd reads
+walks_to draft pointer start value p a (stayed path part along before step) ts more here reads is_at_path =
     one_more draft pointer start value step.there path part along (record { base = along.base; since = along.since ++ part ∷ [] }) (walks_to draft pointer start value path along before) step.is_there
-    (stays_part draft along part step.there (scan draft (is_object step.there) (along.since ++ part ∷ [])) (identifier draft step.there) refl refl step.stays) ts more here reads stands
-walks_to draft pointer start value p a (changed path part along uri before step) ts more here reads stands =
+    (stays_part draft along part step.there (scan draft (is_object step.there) (along.since ++ part ∷ [])) (identifier draft step.there) refl refl step.stays) ts more here reads is_at_path
+walks_to draft pointer start value p a (changed path part along uri before step) ts more here reads is_at_path =
     one_more draft pointer start value step.there path part along (record { base = uri; since = [] }) (walks_to draft pointer start value path along before) step.is_there
-    (changes_part draft along part step.there uri step.change) ts more here reads stands
+    (changes_part draft along part step.there uri step.change) ts more here reads is_at_path
 
 faults_at : (draft : Draft) (pointer : List ℕ) (along : Along) (value : Data) (token : List ℕ) (ts : List (List ℕ)) (fault : Fault) → IsFaultAt draft pointer along value token fault → walked_along draft pointer along value (token ∷ ts) ≡ Err fault
 faults_at draft pointer along value token ts fault (no_index is none) =
@@ -411,7 +411,7 @@ pub reads_path : (draft : Draft) (pointer start text : List ℕ) (value found : 
     → (path : List Part) × IsReadAs value (tokens (percent_decode text)) path × (value_at value path ≡ Some found) × IsBaseAlong draft start value path along
 reads_path draft pointer start text value found along is =
     let r = path_of (is_utf8 (percent_decode text)) draft pointer start value found along (tokens (percent_decode text)) is in
-    (r.rest, r.reads, r.stands, r.bases)
+    (r.rest, r.reads, r.is_at_path, r.bases)
 
 of_text : (draft : Draft) (pointer start text : List ℕ) (value : Data) → IsTrue (is_utf8 (percent_decode text))
     → pointed_value draft pointer start value text ≡ walked_along draft pointer (Start start) value (tokens (percent_decode text))
@@ -424,21 +424,21 @@ no_text draft pointer start text value utf8 =
 
 pub only_path : (draft : Draft) (pointer start text : List ℕ) (value found : Data) (path : List Part) (along : Along) → IsTrue (is_utf8 (percent_decode text)) → IsReadAs value (tokens (percent_decode text)) path
     → value_at value path ≡ Some found → IsBaseAlong draft start value path along → pointed_value draft pointer start value text ≡ Ok (found, along)
-only_path draft pointer start text value found path along utf8 reads stands bases =
+only_path draft pointer start text value found path along utf8 reads is_at_path bases =
     of_text draft pointer start text value utf8
     ∙ ap (walked_along draft pointer (Start start) value) (sym (append-nil (tokens (percent_decode text))))
-    ∙ walks_to draft pointer start value path along bases (tokens (percent_decode text)) [] found reads stands
+    ∙ walks_to draft pointer start value path along bases (tokens (percent_decode text)) [] found reads is_at_path
 
 pub first_fault : (draft : Draft) (pointer start text : List ℕ) (value : Data) (fault : Fault) → IsTrue (is_utf8 (percent_decode text)) → pointed_value draft pointer start value text ≡ Err fault
     → IsFaultAlong draft pointer start value (tokens (percent_decode text)) fault
 first_fault draft pointer start text value fault utf8 is =
     let f = walk_faults draft pointer start value value [] (Start start) (tokens (percent_decode text)) fault begun refl (sym (of_text draft pointer start text value utf8) ∙ is) in
-    record { before = f.before; token = f.token; after = f.after; are = f.are; path = f.rest; reads = f.reads; there = f.there; stands = f.stands; along = f.along; bases = f.bases; faulty = f.faulty }
+    record { before = f.before; token = f.token; after = f.after; are = f.are; path = f.rest; reads = f.reads; there = f.there; is_at_path = f.is_at_path; along = f.along; bases = f.bases; faulty = f.faulty }
 
 pub fault_only : (draft : Draft) (pointer start text : List ℕ) (value : Data) (fault : Fault) → IsTrue (is_utf8 (percent_decode text)) → IsFaultAlong draft pointer start value (tokens (percent_decode text)) fault
     → pointed_value draft pointer start value text ≡ Err fault
 fault_only draft pointer start text value fault utf8 f =
     of_text draft pointer start text value utf8
     ∙ ap (walked_along draft pointer (Start start) value) f.are
-    ∙ walks_to draft pointer start value f.path f.along f.bases f.before (f.token ∷ f.after) f.there f.reads f.stands
+    ∙ walks_to draft pointer start value f.path f.along f.bases f.before (f.token ∷ f.after) f.there f.reads f.is_at_path
     ∙ faults_at draft pointer f.along f.there f.token f.after fault f.faulty

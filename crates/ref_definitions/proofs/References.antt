@@ -189,10 +189,10 @@ pub references_are_retrieved : (layer : Layer) (parents : World) (d : Document) 
     → open_wants (layer ∷ parents) layer ≡ []
     → Contains layer d → Contains (places d) place → place.base ≡ Ok resolver.base → text_under (codes "$ref") place.value ≡ Some reference
     → (uri source : List ℕ) → ¬ (lookup (layer ∷ parents) resolver reference ≡ Err (Unretrievable uri source))
-references_are_retrieved layer parents d place resolver reference none own standing based says uri source is =
+references_are_retrieved layer parents d place resolver reference none own are_at_paths based says uri source is =
     subst Clear is
     (lookup_clear (layer ∷ parents) resolver reference (target resolver.base reference) refl
     (λ to leads. meant layer parents (record { cause = Reference; uri = to }) none
     (in_joined (λ e. flat_map (λ p. wants_at p.base p.value) (places e)) layer d (record { cause = Reference; uri = to }) own
-    (in_joined (λ p. wants_at p.base p.value) (places d) place (record { cause = Reference; uri = to }) standing
+    (in_joined (λ p. wants_at p.base p.value) (places d) place (record { cause = Reference; uri = to }) are_at_paths
     (wanted_there place resolver.base reference to based says leads)))))

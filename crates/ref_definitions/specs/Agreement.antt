@@ -8,7 +8,7 @@ use Rattle.ref_parts.specs.Pointer.{pointer_text}
 use Rattle.ref_draft.specs.declared.draft.Draft.{Draft}
 use Rattle.ref_draft.specs.Keywords.{is_before_2020, is_map_keyword, id_keyword}
 use Rattle.ref_draft.specs.Schema.{text_under}
-use Rattle.ref_draft.specs.Children.{AllStand, walked_children}
+use Rattle.ref_draft.specs.Children.{AllAreThere, walked_children}
 use Rattle.ref_definitions.specs.World.{Document, Layer, World}
 use Rattle.ref_definitions.specs.Places.{Place, root, children_of, places, identifier_of}
 use Rattle.ref_definitions.specs.Resources.{resources}
@@ -38,9 +38,9 @@ pub record IsReadAlike (layer : Layer) (d : Document) (r : Place) (uri : List �
       → HasPlainMaps r.draft p.value
 
 -- each child of a place of the document is at its path, as it does where objects have each key once
-abbrev pub ChildrenStand : Document → Type 0
-ChildrenStand d =
-    (p : Place) → Contains (places d) p → AllStand p.value (walked_children p.draft p.value)
+abbrev pub ChildrenAreThere : Document → Type 0
+ChildrenAreThere d =
+    (p : Place) → Contains (places d) p → AllAreThere p.value (walked_children p.draft p.value)
 
 -- a path as a program holds it: its keys are text, and its indexes fit 64 bits
 pub record IsPathOfTexts (path : List Part) : Type 0 where
@@ -64,6 +64,6 @@ LeadsTo world uri path q =
 abbrev pub WalksAgree : Type 0
 WalksAgree =
     (layer : Layer) (parents : World) (d : Document) (r q : Place) (uri : List ℕ) (path : List Part)
-    → ChildrenStand d → IsReadAlike layer d r uri → IsAtOrBelow q r → q.path ≡ r.path ++ path
+    → ChildrenAreThere d → IsReadAlike layer d r uri → IsAtOrBelow q r → q.path ≡ r.path ++ path
     → IsPathOfTexts path
     → LeadsTo (layer ∷ parents) uri path q

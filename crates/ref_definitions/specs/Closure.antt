@@ -10,7 +10,7 @@ use Rattle.ref_definitions.specs.Fault.{Fault, InvalidUri, RetrievalLimit}
 use Rattle.ref_definitions.specs.Wants.{Want, Cause, wants, faults, open_wants}
 use Rattle.ref_definitions.specs.Preparing.{Given, IsRun, IsOutcome}
 
--- what is given with a retriever that tests tell: which trees it may return for a URI, and with which texts it may refuse
+-- what is given with a retriever that two tests describe: which trees it may return for a URI, and with which texts it may refuse
 abbrev pub given_by : (List ℕ → Data → Bool) → (List ℕ → List ℕ → Bool) → ℕ → Draft → World → Layer
     → Given
 given_by answers refuses limit draft parents documents = record {

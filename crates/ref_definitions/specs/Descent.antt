@@ -6,7 +6,7 @@ use Rattle.ref_definitions.specs.Places.{Place, children_of}
 -- a place is a child of one of those before it
 pub record IsChildOfOne (before : List Place) (p : Place) : Type 0 where
   pub parent : Place
-  pub stands_before : Contains before parent
+  pub comes_before : Contains before parent
   pub child : Contains (children_of parent) p
 
 -- each is a child of one before it

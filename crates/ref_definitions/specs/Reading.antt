@@ -55,7 +55,7 @@ pub record IsFaultAlong (draft : Draft) (pointer start : List ℕ) (value : Data
   pub path : List Part
   pub reads : IsReadAs value before path
   pub there : Data
-  pub stands : value_at value path ≡ Some there
+  pub is_at_path : value_at value path ≡ Some there
   pub along : Along
   pub bases : IsBaseAlong draft start value path along
   pub faulty : IsFaultAt draft pointer along there token fault

@@ -28,19 +28,19 @@ abbrev pub marked_beginning : List (Result Found Fault) → List (Result Found F
 marked_beginning answers = take_while answers_marked answers
 
 -- what is after that beginning
-abbrev pub behind_beginning : List (Result Found Fault) → List (Result Found Fault)
-behind_beginning answers = drop (prefix_len answers_marked answers) answers
+abbrev pub after_beginning : List (Result Found Fault) → List (Result Found Fault)
+after_beginning answers = drop (prefix_len answers_marked answers) answers
 
 -- a fault that is right after, or else this answer
-abbrev pub unless_fault_behind : List (Result Found Fault) → Result Found Fault → Result Found Fault
-unless_fault_behind [] answer = answer
-unless_fault_behind (Ok found ∷ rest) answer = answer
-unless_fault_behind (Err fault ∷ rest) answer = Err fault
+abbrev pub unless_fault_after : List (Result Found Fault) → Result Found Fault → Result Found Fault
+unless_fault_after [] answer = answer
+unless_fault_after (Ok found ∷ rest) answer = answer
+unless_fault_after (Err fault ∷ rest) answer = Err fault
 
 -- The last of the longest beginning, or the first lookup where that is empty; a fault right after the beginning is the answer.
 abbrev pub outermost_marked : Result Found Fault → List (Result Found Fault) → Result Found Fault
 outermost_marked first answers =
-    unless_fault_behind (behind_beginning answers)
+    unless_fault_after (after_beginning answers)
     (unwrap_or (last_or None (marked_beginning answers)) first)
 
 -- where `$recursiveRef` leads

@@ -25,10 +25,10 @@ ghost use Rattle.ref_definitions.specs.Pending.{Addition, Pending, with_addition
 ghost use Rattle.ref_definitions.specs.References.{ReferencesAreRetrieved};
 ghost use Rattle.ref_definitions.specs.Retrievers.{GivesOneOutcome, default_retriever, function_retriever, map_retriever};
 ghost use Rattle.ref_definitions.specs.Wants.{faults};
-ghost use Rattle.ref_definitions.specs.Agreement.{ChildrenStand, IsAtOrBelow, WalksAgree};
+ghost use Rattle.ref_definitions.specs.Agreement.{ChildrenAreThere, IsAtOrBelow, WalksAgree};
 ghost use Rattle.ref_definitions.specs.Lookup.{Resolver, Found, lookup};
 ghost use Rattle.ref_definitions.specs.Recursive.{lookup_recursive};
-ghost use Rattle.ref_definitions.specs.Parts.{IsPartOf, AllChildrenStand, AllHaveUniqueKeys};
+ghost use Rattle.ref_definitions.specs.Parts.{IsPartOf, AllChildrenAreThere, AllHaveUniqueKeys};
 ghost use Rattle.ref_definitions.specs.Appending.{MeaningsStay, MeaningsStayBelow, MetWantsStay, OpenWantsAfter};
 
 /// Pending documents are under URIs that differ, whatever was added.
@@ -46,11 +46,11 @@ pub fn levels_end_at_the_depth()
 
 /// Where each object of a document has each key once, each place of it has its value at its path, the paths of places differ,
 /// and each child of a place is at its path there. Where the children do, so do the places.
-pub fn places_stand_at_their_paths()
+pub fn places_are_at_their_paths()
     ensures values { (d : Document) → HasUniqueKeys d.tree
         → AllByRecursion (λ p. value_at d.tree p.path ≡ Some p.value) (places d) }
-    ensures children { (d : Document) → HasUniqueKeys d.tree → ChildrenStand d }
-    ensures standing { (d : Document) → ChildrenStand d
+    ensures children { (d : Document) → HasUniqueKeys d.tree → ChildrenAreThere d }
+    ensures are_at_paths { (d : Document) → ChildrenAreThere d
         → AllByRecursion (λ p. value_at d.tree p.path ≡ Some p.value) (places d) }
     ensures paths { (d : Document) → HasUniqueKeys d.tree
         → AllPairs (λ p q. ¬ (p ≡ q)) (map (λ p. p.path) (places d)) }
@@ -173,7 +173,7 @@ pub fn references_are_retrieved()
 /// From a resource that has its URI for itself and one draft throughout, and before 2020-12 no map of subschemas that holds a
 /// text under the identifier's keyword, the pointer of a path leads to each place at or below the resource as the keywords of
 /// subschemas do: to the same value, of the same draft, with the same base. The children of places are to be at their paths,
-/// as `places_stand_at_their_paths` says.
+/// as `places_are_at_their_paths` says.
 pub fn walks_agree()
     ensures law { WalksAgree }
 {}
@@ -182,12 +182,12 @@ pub fn walks_agree()
 /// to be at their paths, as they are where each object of each document has each key once.
 pub fn lookups_find_parts_of_documents()
     ensures law { (world : World) (resolver : Resolver) (reference : List ℕ) (found : Found)
-        → AllChildrenStand world → lookup world resolver reference ≡ Ok found
+        → AllChildrenAreThere world → lookup world resolver reference ≡ Ok found
         → IsPartOf world found.value }
     ensures recursive { (world : World) (resolver : Resolver) (found : Found)
-        → AllChildrenStand world → lookup_recursive world resolver ≡ Ok found
+        → AllChildrenAreThere world → lookup_recursive world resolver ≡ Ok found
         → IsPartOf world found.value }
-    ensures children { (world : World) → AllHaveUniqueKeys world → AllChildrenStand world }
+    ensures children { (world : World) → AllHaveUniqueKeys world → AllChildrenAreThere world }
 {}
 
 /// The places at or below a place of a document are those places of it whose paths go on from its path; this needs each object

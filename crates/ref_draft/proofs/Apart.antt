@@ -33,11 +33,11 @@ ways_turned (x ∷ p) (y ∷ q) (inl differ) = inl (λ same. differ (sym same))
 ways_turned (x ∷ p) (y ∷ q) (inr apart) = inr (ways_turned p q apart)
 
 -- however the second goes on
-pub ways_behind : (p q more : List Part) → PartWays p q → PartWays p (q ++ more)
-ways_behind [] q more apart = apart
-ways_behind (x ∷ p) [] more apart = absurd apart
-ways_behind (x ∷ p) (y ∷ q) more (inl differ) = inl differ
-ways_behind (x ∷ p) (y ∷ q) more (inr apart) = inr (ways_behind p q more apart)
+pub ways_past : (p q more : List Part) → PartWays p q → PartWays p (q ++ more)
+ways_past [] q more apart = apart
+ways_past (x ∷ p) [] more apart = absurd apart
+ways_past (x ∷ p) (y ∷ q) more (inl differ) = inl differ
+ways_past (x ∷ p) (y ∷ q) more (inr apart) = inr (ways_past p q more apart)
 
 -- after one beginning
 pub ways_after : (front p q : List Part) → PartWays p q → PartWays (front ++ p) (front ++ q)

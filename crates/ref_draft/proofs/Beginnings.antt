@@ -7,7 +7,7 @@ use Rattle.ref_draft.specs.declared.draft.Draft.{Draft}
 use Rattle.ref_draft.specs.declared.spec.Holding.{Holding}
 use Rattle.ref_draft.specs.declared.spec.Holding.TheVariants.{Whole, WholeObject, Elements, Members as EachMember, ElementsOrWhole, ObjectMembers, Nothing}
 use Rattle.ref_draft.specs.Keywords.{is_before_2020, is_map_keyword, holding_of}
-use Rattle.ref_draft.specs.Children.{Child, AllStand, with_draft, whole_child, elements_from, each_member, elements, members, held_children, children_below, children, has_object, is_object, walked_children}
+use Rattle.ref_draft.specs.Children.{Child, AllAreThere, with_draft, whole_child, elements_from, each_member, elements, members, held_children, children_below, children, has_object, is_object, walked_children}
 use Rattle.ref_draft.specs.Scan.{is_child_keyword, IsAccepted, SpellsWord}
 use Rattle.ref_draft.specs.Beginnings.{is_array, EndsWithin, AllEndWithin}
 use Rattle.ref_draft.proofs.Holdings.{Says, says_holding, HoldsItems}
@@ -138,9 +138,9 @@ begin_with_keys d value = all_map (λ child. Form d child.0) (λ child. IsKeyAlo
 
 ends_at : (d : Draft) (parts : List Part) (value v : Data) (path beginning rest : List Part) → IsAccepted d parts value → Form d path → value_at value path ≡ Some v
     → path ≡ beginning ++ rest → beginning ≢ [] → rest ≢ [] → EndsWithin d parts value beginning
-ends_at d parts value v path beginning rest accepted (alone k) stands is some more = absurd (none_of_one k beginning rest is some more)
-ends_at d parts value v path beginning rest accepted (element k i since) stands is some more =
-    let leads = through (λ e. value_at e (Index i ∷ [])) (child_at value (Key k)) v stands in
+ends_at d parts value v path beginning rest accepted (alone k) is_at_path is some more = absurd (none_of_one k beginning rest is some more)
+ends_at d parts value v path beginning rest accepted (element k i since) is_at_path is some more =
+    let leads = through (λ e. value_at e (Index i ∷ [])) (child_at value (Key k)) v is_at_path in
     subst (EndsWithin d parts value) (sym (one_part k (Index i) beginning rest is some more))
     (record {
       within = leads.0;
@@ -148,8 +148,8 @@ ends_at d parts value v path beginning rest accepted (element k i since) stands 
       between = inl (array_by_index leads.0 v i leads.2);
       not_accepted = λ after. stops_within d leads.0 parts k (word_since d parts value after accepted) (since after);
     })
-ends_at d parts value v path beginning rest accepted (of_map k l since in_map) stands is some more =
-    let leads = through (λ e. value_at e (Key l ∷ [])) (child_at value (Key k)) v stands in
+ends_at d parts value v path beginning rest accepted (of_map k l since in_map) is_at_path is some more =
+    let leads = through (λ e. value_at e (Key l ∷ [])) (child_at value (Key k)) v is_at_path in
     subst (EndsWithin d parts value) (sym (one_part k (Key l) beginning rest is some more))
     (record {
       within = leads.0;
@@ -158,10 +158,10 @@ ends_at d parts value v path beginning rest accepted (of_map k l since in_map) s
       not_accepted = λ after. stops_within d leads.0 parts k (word_since d parts value after accepted) (since after);
     })
 
-each : (d : Draft) (parts : List Part) (value : Data) (cs : List Child) → IsAccepted d parts value → AllHaveForm d cs → AllStand value (map (with_draft d) cs) → AllEndWithin d parts value cs
-each d parts value [] accepted forms stand = tt
-each d parts value (c ∷ cs) accepted forms stand =
-    (λ beginning rest is some more. ends_at d parts value c.1 c.0 beginning rest accepted forms.0 stand.0 is some more, each d parts value cs accepted forms.1 stand.1)
+each : (d : Draft) (parts : List Part) (value : Data) (cs : List Child) → IsAccepted d parts value → AllHaveForm d cs → AllAreThere value (map (with_draft d) cs) → AllEndWithin d parts value cs
+each d parts value [] accepted forms are_there = tt
+each d parts value (c ∷ cs) accepted forms are_there =
+    (λ beginning rest is some more. ends_at d parts value c.1 c.0 beginning rest accepted forms.0 are_there.0 is some more, each d parts value cs accepted forms.1 are_there.1)
 
-pub all_end_within : (d : Draft) (parts : List Part) (value : Data) → IsAccepted d parts value → AllStand value (walked_children d value) → AllEndWithin d parts value (children d value)
-all_end_within d parts value accepted stand = each d parts value (children d value) accepted (all_have_form d value) stand
+pub all_end_within : (d : Draft) (parts : List Part) (value : Data) → IsAccepted d parts value → AllAreThere value (walked_children d value) → AllEndWithin d parts value (children d value)
+all_end_within d parts value accepted are_there = each d parts value (children d value) accepted (all_have_form d value) are_there

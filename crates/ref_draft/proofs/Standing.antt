@@ -13,17 +13,17 @@ use Rattle.ref_paths.specs.Path.{Key, value_at}
 use Rattle.ref_draft.specs.declared.draft.Draft.{Draft}
 use Rattle.ref_draft.specs.declared.spec.Holding.{Holding}
 use Rattle.ref_draft.specs.declared.spec.Holding.TheVariants.{Whole, WholeObject, Elements, Members as EachMember, ElementsOrWhole, ObjectMembers, Nothing}
-use Rattle.ref_draft.specs.Children.{Child, Walked, with_draft, AllStand, whole_child, elements_from, each_member, elements, members, held_children, has_object}
+use Rattle.ref_draft.specs.Children.{Child, Walked, with_draft, AllAreThere, whole_child, elements_from, each_member, elements, members, held_children, has_object}
 use Rattle.ref_draft.specs.inner.WalkSteps.{AreFoundIn, FindsMembers, FindsMembersWhere, members_in}
 use Rattle.ref_draft.proofs.Lists.{all_append, all_filter}
 use Rattle.ref_draft.proofs.Under.{rest_of}
 
 -- each child's path is the keyword and what leads to it from the keyword's value
-abbrev pub StandsUnder : List ℕ → Data → Child → Type 0
-StandsUnder k v child = (child.0 ≡ Key k ∷ rest_of child.0) × (value_at v (rest_of child.0) ≡ Some child.1)
+abbrev pub IsThereUnder : List ℕ → Data → Child → Type 0
+IsThereUnder k v child = (child.0 ≡ Key k ∷ rest_of child.0) × (value_at v (rest_of child.0) ≡ Some child.1)
 
-abbrev pub StandUnder : List ℕ → Data → List Child → Type 0
-StandUnder k v cs = AllByRecursion (StandsUnder k v) cs
+abbrev pub AreThereUnder : List ℕ → Data → List Child → Type 0
+AreThereUnder k v cs = AllByRecursion (IsThereUnder k v) cs
 
 shift : (i j : ℕ) → i + suc j ≡ suc i + j
 shift i j = omega arith
@@ -34,54 +34,54 @@ start i = omega arith
 front : (j : ℕ) → j ≡ 0 + j
 front j = omega arith
 
-stand_elements_from : (k : List ℕ) (i : ℕ) (ds all : Items) → ((j : ℕ) → get_item j ds ≡ get_item (i + j) all) → StandUnder k (array all) (elements_from k i ds)
-stand_elements_from k i no_items all same = tt
-stand_elements_from k i (item d ds) all same = (
+are_there_elements_from : (k : List ℕ) (i : ℕ) (ds all : Items) → ((j : ℕ) → get_item j ds ≡ get_item (i + j) all) → AreThereUnder k (array all) (elements_from k i ds)
+are_there_elements_from k i no_items all same = tt
+are_there_elements_from k i (item d ds) all same = (
   (refl, ap (option_and_then (λ e. Some e)) (ap (λ n. get_item n all) (start i) ∙ sym (same zero))),
-  stand_elements_from k (suc i) ds all (λ j. same (suc j) ∙ ap (λ n. get_item n all) (shift i j)),
+  are_there_elements_from k (suc i) ds all (λ j. same (suc j) ∙ ap (λ n. get_item n all) (shift i j)),
 )
 
-stand_each_member : (k : List ℕ) (all ms : Members) → AreFoundIn all ms → StandUnder k (object all) (each_member k ms)
-stand_each_member k all no_members found = tt
-stand_each_member k all (member l d ms) found = ((refl, ap (option_and_then (λ e. Some e)) found.0), stand_each_member k all ms found.1)
+are_there_each_member : (k : List ℕ) (all ms : Members) → AreFoundIn all ms → AreThereUnder k (object all) (each_member k ms)
+are_there_each_member k all no_members found = tt
+are_there_each_member k all (member l d ms) found = ((refl, ap (option_and_then (λ e. Some e)) found.0), are_there_each_member k all ms found.1)
 
-stand_elements : (k : List ℕ) (v : Data) → StandUnder k v (elements k v)
-stand_elements k null = tt
-stand_elements k (boolean b) = tt
-stand_elements k (number x) = tt
-stand_elements k (string s) = tt
-stand_elements k (array ds) = stand_elements_from k 0 ds ds (λ j. ap (λ n. get_item n ds) (front j))
-stand_elements k (object ms) = tt
+are_there_elements : (k : List ℕ) (v : Data) → AreThereUnder k v (elements k v)
+are_there_elements k null = tt
+are_there_elements k (boolean b) = tt
+are_there_elements k (number x) = tt
+are_there_elements k (string s) = tt
+are_there_elements k (array ds) = are_there_elements_from k 0 ds ds (λ j. ap (λ n. get_item n ds) (front j))
+are_there_elements k (object ms) = tt
 
-stand_elements_or_whole : (k : List ℕ) (v : Data) → StandUnder k v (held_children ElementsOrWhole k v)
-stand_elements_or_whole k null = ((refl, refl), tt)
-stand_elements_or_whole k (boolean b) = ((refl, refl), tt)
-stand_elements_or_whole k (number x) = ((refl, refl), tt)
-stand_elements_or_whole k (string s) = ((refl, refl), tt)
-stand_elements_or_whole k (array ds) = stand_elements_from k 0 ds ds (λ j. ap (λ n. get_item n ds) (front j))
-stand_elements_or_whole k (object ms) = ((refl, refl), tt)
+are_there_elements_or_whole : (k : List ℕ) (v : Data) → AreThereUnder k v (held_children ElementsOrWhole k v)
+are_there_elements_or_whole k null = ((refl, refl), tt)
+are_there_elements_or_whole k (boolean b) = ((refl, refl), tt)
+are_there_elements_or_whole k (number x) = ((refl, refl), tt)
+are_there_elements_or_whole k (string s) = ((refl, refl), tt)
+are_there_elements_or_whole k (array ds) = are_there_elements_from k 0 ds ds (λ j. ap (λ n. get_item n ds) (front j))
+are_there_elements_or_whole k (object ms) = ((refl, refl), tt)
 
-stand_members : (k : List ℕ) (v : Data) → FindsMembers v → StandUnder k v (members k v)
-stand_members k null u = tt
-stand_members k (boolean b) u = tt
-stand_members k (number x) u = tt
-stand_members k (string s) u = tt
-stand_members k (array ds) u = tt
-stand_members k (object ms) u = stand_each_member k ms ms u
+are_there_members : (k : List ℕ) (v : Data) → FindsMembers v → AreThereUnder k v (members k v)
+are_there_members k null u = tt
+are_there_members k (boolean b) u = tt
+are_there_members k (number x) u = tt
+are_there_members k (string s) u = tt
+are_there_members k (array ds) u = tt
+are_there_members k (object ms) u = are_there_each_member k ms ms u
 
-pub stand_held : (how : Holding) (k : List ℕ) (v : Data) → FindsMembersWhere how v → StandUnder k v (held_children how k v)
-stand_held Whole k v u = ((refl, refl), tt)
-stand_held WholeObject k v u = all_filter (StandsUnder k v) has_object (whole_child k v) ((refl, refl), tt)
-stand_held Elements k v u = stand_elements k v
-stand_held EachMember k v u = stand_members k v u
-stand_held ElementsOrWhole k v u = stand_elements_or_whole k v
-stand_held ObjectMembers k v u = all_filter (StandsUnder k v) has_object (members k v) (stand_members k v u)
-stand_held Nothing k v u = tt
+pub are_there_held : (how : Holding) (k : List ℕ) (v : Data) → FindsMembersWhere how v → AreThereUnder k v (held_children how k v)
+are_there_held Whole k v u = ((refl, refl), tt)
+are_there_held WholeObject k v u = all_filter (IsThereUnder k v) has_object (whole_child k v) ((refl, refl), tt)
+are_there_held Elements k v u = are_there_elements k v
+are_there_held EachMember k v u = are_there_members k v u
+are_there_held ElementsOrWhole k v u = are_there_elements_or_whole k v
+are_there_held ObjectMembers k v u = all_filter (IsThereUnder k v) has_object (members k v) (are_there_members k v u)
+are_there_held Nothing k v u = tt
 
 -- ---- from an object
 
 -- found under its key, the keyword's value has its children where the object has them
-pub from_object : (d : Draft) (t : Data) (k : List ℕ) (v : Data) (cs : List Child) → get k t ≡ Some v → StandUnder k v cs → AllStand t (map (with_draft d) cs)
+pub from_object : (d : Draft) (t : Data) (k : List ℕ) (v : Data) (cs : List Child) → get k t ≡ Some v → AreThereUnder k v cs → AllAreThere t (map (with_draft d) cs)
 from_object d t k v [] found p = tt
 from_object d t k v (c ∷ cs) found p =
     (ap (value_at t) p.0.0 ∙ ap (option_and_then (λ e. value_at e (rest_of c.0))) found ∙ p.0.1, from_object d t k v cs found p.1)
@@ -95,8 +95,8 @@ get_in (array ds) k v e = e
 get_in (object ms) k v e = e
 
 -- one keyword more
-pub step : (d : Draft) (t : Data) (how : Holding) (k : List ℕ) (v : Data) (done all : List Walked) → AllStand t done → get_member k (members_in t) ≡ Some v → FindsMembersWhere how v → all ≡ done ++ map (with_draft d) (held_children how k v) → AllStand t all
-step d t how k v done all before found unique is = rw is (all_append (λ child. value_at t child.path ≡ Some child.value) done (map (with_draft d) (held_children how k v)) before (from_object d t k v (held_children how k v) (get_in t k v found) (stand_held how k v unique)))
+pub step : (d : Draft) (t : Data) (how : Holding) (k : List ℕ) (v : Data) (done all : List Walked) → AllAreThere t done → get_member k (members_in t) ≡ Some v → FindsMembersWhere how v → all ≡ done ++ map (with_draft d) (held_children how k v) → AllAreThere t all
+step d t how k v done all before found unique is = rw is (all_append (λ child. value_at t child.path ≡ Some child.value) done (map (with_draft d) (held_children how k v)) before (from_object d t k v (held_children how k v) (get_in t k v found) (are_there_held how k v unique)))
 
 -- ---- the entries of a map
 

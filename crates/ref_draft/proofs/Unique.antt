@@ -14,12 +14,12 @@ use Rattle.ref_draft.specs.declared.draft.Draft.{Draft}
 use Rattle.ref_draft.specs.declared.spec.Holding.{Holding}
 use Rattle.ref_draft.specs.declared.spec.Holding.TheVariants.{Whole, WholeObject, Elements, Members as EachMember, ElementsOrWhole, ObjectMembers, Nothing}
 use Rattle.ref_draft.specs.Keywords.{holding_of}
-use Rattle.ref_draft.specs.Children.{AllStand, with_draft, held_children, children_below, walked_children, children}
+use Rattle.ref_draft.specs.Children.{AllAreThere, with_draft, held_children, children_below, walked_children, children}
 use Rattle.ref_draft.specs.UniqueKeys.{KeysDiffer, HasUniqueKeys, ItemsHaveUniqueKeys, MembersHaveUniqueKeys}
 use Rattle.ref_draft.specs.inner.WalkSteps.{AreFoundIn, FindsMembers, FindsMembersWhere}
 use Rattle.ref_draft.proofs.Lists.{all_append}
 use Rattle.ref_draft.proofs.Hereditary.{Hereditary, in_children}
-use Rattle.ref_draft.proofs.Standing.{stand_held, from_object}
+use Rattle.ref_draft.proofs.Standing.{are_there_held, from_object}
 
 equal_itself : (k : List ℕ) → slice_cmp nat_cmp k k ≡ Equal
 equal_itself k = tied_itself nat_list_cmp_total k
@@ -45,16 +45,16 @@ past_step k l e ms Greater is other = refl
 past : (k l : List ℕ) (e : Data) (ms : Members) → ¬ (k ≡ l) → get_member k (member l e ms) ≡ get_member k ms
 past k l e ms differ = past_step k l e ms (slice_cmp nat_cmp k l) refl (not_equal k l differ (slice_cmp nat_cmp k l) refl)
 
-found_behind : (l : List ℕ) (e : Data) (all ms : Members) → get_member l ms ≡ None → AreFoundIn all ms → AreFoundIn (member l e all) ms
-found_behind l e all no_members none found = tt
-found_behind l e all (member k d ms) none found =
+found_after : (l : List ℕ) (e : Data) (all ms : Members) → get_member l ms ≡ None → AreFoundIn all ms → AreFoundIn (member l e all) ms
+found_after l e all no_members none found = tt
+found_after l e all (member k d ms) none found =
     let apart = absent l k d ms none in
-    (past k l e all (λ same. apart.0 (sym same)) ∙ found.0, found_behind l e all ms apart.1 found.1)
+    (past k l e all (λ same. apart.0 (sym same)) ∙ found.0, found_after l e all ms apart.1 found.1)
 
 all_found : (ms : Members) → KeysDiffer ms → AreFoundIn ms ms
 all_found no_members differ = tt
 all_found (member k d ms) differ =
-    (ap (λ o. match_ordering o (get_member k ms) (Some d) (get_member k ms)) (equal_itself k), found_behind k d ms ms differ.0 (all_found ms differ.1))
+    (ap (λ o. match_ordering o (get_member k ms) (Some d) (get_member k ms)) (equal_itself k), found_after k d ms ms differ.0 (all_found ms differ.1))
 
 finds_members : (v : Data) → HasUniqueKeys v → FindsMembers v
 finds_members null unique = tt
@@ -73,21 +73,21 @@ finds_where ElementsOrWhole v unique = tt
 finds_where ObjectMembers v unique = finds_members v unique
 finds_where Nothing v unique = tt
 
-stand_below : (d : Draft) (all ms : Members) → AreFoundIn all ms → MembersHaveUniqueKeys ms → AllStand (object all) (map (with_draft d) (children_below d ms))
-stand_below d all no_members found unique = tt
-stand_below d all (member k v ms) found unique =
+are_there_below : (d : Draft) (all ms : Members) → AreFoundIn all ms → MembersHaveUniqueKeys ms → AllAreThere (object all) (map (with_draft d) (children_below d ms))
+are_there_below d all no_members found unique = tt
+are_there_below d all (member k v ms) found unique =
     let cs = held_children (holding_of d k) k v in
-    subst (AllStand (object all)) (sym (map-append (with_draft d) cs (children_below d ms)))
+    subst (AllAreThere (object all)) (sym (map-append (with_draft d) cs (children_below d ms)))
     (all_append (λ child. value_at (object all) child.path ≡ Some child.value) (map (with_draft d) cs) (map (with_draft d) (children_below d ms))
-    (from_object d (object all) k v cs found.0 (stand_held (holding_of d k) k v (finds_where (holding_of d k) v unique.0))) (stand_below d all ms found.1 unique.1))
+    (from_object d (object all) k v cs found.0 (are_there_held (holding_of d k) k v (finds_where (holding_of d k) v unique.0))) (are_there_below d all ms found.1 unique.1))
 
-pub children_stand : (d : Draft) (v : Data) → HasUniqueKeys v → AllStand v (walked_children d v)
-children_stand d null unique = tt
-children_stand d (boolean b) unique = tt
-children_stand d (number x) unique = tt
-children_stand d (string s) unique = tt
-children_stand d (array ds) unique = tt
-children_stand d (object ms) unique = stand_below d ms ms (all_found ms unique.0) unique.1
+pub children_are_there : (d : Draft) (v : Data) → HasUniqueKeys v → AllAreThere v (walked_children d v)
+children_are_there d null unique = tt
+children_are_there d (boolean b) unique = tt
+children_are_there d (number x) unique = tt
+children_are_there d (string s) unique = tt
+children_are_there d (array ds) unique = tt
+children_are_there d (object ms) unique = are_there_below d ms ms (all_found ms unique.0) unique.1
 
 hereditary : Hereditary HasUniqueKeys ItemsHaveUniqueKeys MembersHaveUniqueKeys
 hereditary = record {

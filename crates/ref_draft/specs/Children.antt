@@ -97,8 +97,8 @@ abbrev pub walked_children : Draft → Data → List Walked
 walked_children d value = map (with_draft d) (children d value)
 
 -- each child is at its path
-abbrev pub AllStand : Data → List Walked → Type 0
-AllStand value children =
+abbrev pub AllAreThere : Data → List Walked → Type 0
+AllAreThere value children =
     AllByRecursion (λ child. value_at value child.path ≡ Some child.value) children
 
 -- the keyword at the front of a path

@@ -4,7 +4,7 @@ ghost use Rattle.serde_json.specs.View.{view};
 ghost use Rattle.ref_draft.specs.Keywords.{holding_of, id_keyword, is_known, is_before_2019};
 ghost use Rattle.ref_draft.specs.Names as names;
 ghost use Rattle.ref_draft.specs.Schema.{from_schema_uri, draft_of_uri, detect, text_under};
-ghost use Rattle.ref_draft.specs.Children.{AllStand, InKeyOrder, subresources, walked_children};
+ghost use Rattle.ref_draft.specs.Children.{AllAreThere, InKeyOrder, subresources, walked_children};
 ghost use Rattle.ref_draft.specs.Anchors.{anchors};
 ghost use Rattle.ref_draft.specs.Scan.{IsAccepted};
 ghost use Rattle.ref_draft.specs.Views.{AllName, anchor_name, anchors_left, resource, resource_ref, tagged_value, values_left, walked_child};
@@ -156,7 +156,7 @@ impl Draft {
         ensures children { IfOk result
             (λ v. map walked_child v.items ≡ walked_children self (view contents.now)) }
         ensures order { OnOk result (InKeyOrder (view contents.now)) }
-        ensures found { IfOk result (λ v. AllStand (view contents.now) (map walked_child v.items)) }
+        ensures found { IfOk result (λ v. AllAreThere (view contents.now) (map walked_child v.items)) }
     {
         walk::children(alloc, self, contents)
     }

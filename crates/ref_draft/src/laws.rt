@@ -4,7 +4,7 @@ ghost use Rattle.std.specs.List.{AllByRecursion};
 ghost use Rattle.std.specs.Ordering.{nat_cmp};
 ghost use Rattle.serde_json.specs.Data.{Data, depth};
 ghost use Rattle.ref_draft.specs.declared.draft.Draft.{Draft as Version};
-ghost use Rattle.ref_draft.specs.Children.{AllStand, children, is_object, walked_children};
+ghost use Rattle.ref_draft.specs.Children.{AllAreThere, children, is_object, walked_children};
 ghost use Rattle.ref_draft.specs.Names.{draft_name, draft_named};
 ghost use Rattle.ref_draft.specs.Order.{rank};
 ghost use Rattle.ref_draft.specs.Scan.{AcceptsChildren, IsAccepted, SpellsWord, is_child_keyword};
@@ -48,7 +48,7 @@ pub fn children_are_shallower()
 /// Each child of a value whose objects have each key once is at its path.
 pub fn children_stand_at_their_paths()
     ensures law { (d : Version) (value : Data) → HasUniqueKeys value
-        → AllStand value (walked_children d value) }
+        → AllAreThere value (walked_children d value) }
 {}
 
 /// Where the parts that lead to a value are accepted, those that lead on to each of its children that is an object are
@@ -62,7 +62,7 @@ pub fn scan_goes_on_to_children()
 /// 2020-12 nothing there is accepted. The children are to be at their paths, as `children_stand_at_their_paths` says.
 pub fn paths_of_children_end_within()
     ensures law { (d : Version) (parts : List Part) (value : Data)
-        → IsAccepted d parts value → AllStand value (walked_children d value)
+        → IsAccepted d parts value → AllAreThere value (walked_children d value)
         → AllEndWithin d parts value (children d value) }
 {}
 

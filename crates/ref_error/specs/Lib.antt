@@ -1,3 +1,4 @@
 pub mod Errors
 pub mod Retrieving
 pub mod Rows
+pub mod inner

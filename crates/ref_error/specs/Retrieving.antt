@@ -1,7 +1,5 @@
 -- Retrievers of the program as the definitions have them.
-use Rattle.std.specs.Prelude.{◌≡◌, ℕ, List, map, None, ⊤, bytes_eq}
-use Rattle.std.specs.HashMap.{HashMap, get}
-use Rattle.std.specs.Map.{update_all}
+use Rattle.std.specs.Prelude.{ℕ, List, map, ⊤}
 use Rattle.serde_json.specs.Data.{Data}
 use Rattle.serde_json.specs.View.{view}
 use Rattle.serde_json.specs.declared.value.Value.{Value}
@@ -17,8 +15,3 @@ IfRefused (Memory error) P = ⊤
 -- the trees of documents, each under its URI
 abbrev pub trees_of : List (List ℕ × Value) → List (List ℕ × Data)
 trees_of pairs = map (λ p. (p.0, view p.1)) pairs
-
--- the map has under each URI the last of these values
-abbrev pub AreLast : {S : Type 0} → HashMap (List ℕ) Value S → List (List ℕ × Value) → Type 0
-AreLast documents given =
-    (uri : List ℕ) → get bytes_eq documents uri ≡ update_all bytes_eq (λ _. None) given uri

@@ -5,7 +5,8 @@ ghost use Rattle.std.specs.Map.{update};
 ghost use Rattle.serde_json.specs.Data.{Data};
 ghost use Rattle.serde_json.specs.View.{view};
 ghost use Rattle.ref_definitions.specs.Preparing.{Retriever};
-ghost use Rattle.ref_error.specs.Retrieving.{IfRefused, AreLast};
+ghost use Rattle.ref_error.specs.Retrieving.{IfRefused};
+ghost use Rattle.ref_error.specs.inner.Documents.{AreLast};
 
 use crate::error::{Reason, RetrieveError};
 use ref_uri::Uri;
@@ -15,7 +16,7 @@ use std::collections::HashMap;
 use std::marker::Model;
 use std::snapshot::Snapshot;
 
-/// What documents are retrieved from that are wanted and were not added. An `impl` tells, for a URI, the trees that it may
+/// What documents are retrieved from that are wanted and were not added. An `impl` describes, for a URI, the trees that it may
 /// return and the texts that it may refuse with; it may choose among them anew in each call.
 pub trait Retrieve {
     // The trees that may be returned for a URI, and the texts that it may be refused with.
@@ -81,7 +82,7 @@ impl Model for MapRetriever {
 
     ghost coded = { Prim.hlevel (codes, stored.the_row.coded) };
 
-    ghost use Rattle.ref_error.specs.Retrieving.{AreLast};
+    ghost use Rattle.ref_error.specs.inner.Documents.{AreLast};
 
     ghost view = { λ m. m.given.value.items };
 

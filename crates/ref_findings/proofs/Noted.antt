@@ -19,7 +19,7 @@ use Rattle.ref_definitions.specs.Places.{Place, base_within, root, levels_below,
 use Rattle.ref_definitions.specs.Anchors.{Named, named_under}
 use Rattle.ref_definitions.specs.Cached.{Pair, pairs_of_identifier, pairs_of_reference}
 use Rattle.ref_definitions.specs.Wants.{Want, Reference, MetaSchema, reference_at, schema_at, schema_uri, wants_of_text, wants_at}
-use Rattle.ref_index.specs.Listed.{IsLeftOut, AreNoted, none, noted, left_out, IsListingOf, ChildrenStandAt}
+use Rattle.ref_index.specs.Listed.{IsLeftOut, AreNoted, none, noted, left_out, IsListingOf, ChildrenAreAt}
 use Rattle.ref_findings.specs.declared.place.Place as rust
 use Rattle.ref_findings.specs.inner.Plain.{IsPlain}
 use Rattle.ref_index.specs.Visit.{place_with}
@@ -75,20 +75,20 @@ all_visited P queue after more i p within here grown all one =
 
 -- ---- a source
 
-listed : (d : Document) (ps vs : List Place) → ps ≡ places_near d → places d ≡ places_near d → AllByRecursion ChildrenStandAt ps → ((first : Place) (below : List Place) → ps ≡ first ∷ below → AreNoted below vs) → AreNoted (places d) (root d ∷ vs)
-listed d ps vs near same stand are =
+listed : (d : Document) (ps vs : List Place) → ps ≡ places_near d → places d ≡ places_near d → AllByRecursion ChildrenAreAt ps → ((first : Place) (below : List Place) → ps ≡ first ∷ below → AreNoted below vs) → AreNoted (places d) (root d ∷ vs)
+listed d ps vs near same are_there are =
     let below = levels_below (depth d.tree) (root d ∷ []) in
     noted (root d) below vs (are (root d) below (near ∙ sym same))
 
-pub listing : (draft : Draft) (s : Source) (t : Data) (ps vs : List Place) → s.tree ≡ Some t → is_sound draft s ≡ true → ps ≡ places_in draft s → AllByRecursion ChildrenStandAt ps
+pub listing : (draft : Draft) (s : Source) (t : Data) (ps vs : List Place) → s.tree ≡ Some t → is_sound draft s ≡ true → ps ≡ places_in draft s → AllByRecursion ChildrenAreAt ps
     → ((first : Place) (below : List Place) → ps ≡ first ∷ below → AreNoted below vs) → IsListingOf (document draft s.uri t) vs
-listing draft s t ps vs tree sound seen stand are =
+listing draft s t ps vs tree sound seen are_there are =
     let d = document draft s.uri t in
     let near : ps ≡ places_near d = seen ∙ ap (λ o. option_map_or places_near (option_map (document draft s.uri) o) []) tree in
     let faultless = sound_places draft s t tree sound in
     let same = same_places d faultless in
     record {
-      noted = listed d ps vs near same stand are;
+      noted = listed d ps vs near same are_there are;
       faultless = faultless_document d faultless;
-      children = λ p there. All-contains ChildrenStandAt (places d) p (All-from_recursion ChildrenStandAt (places d) (subst (AllByRecursion ChildrenStandAt) (near ∙ sym same) stand)) there;
+      children = λ p there. All-contains ChildrenAreAt (places d) p (All-from_recursion ChildrenAreAt (places d) (subst (AllByRecursion ChildrenAreAt) (near ∙ sym same) are_there)) there;
     }

@@ -1,4 +1,4 @@
--- Values without a key that begins with `$`, which is less than each letter: the first key in byte order tells.
+-- Values without a key that begins with `$`, which is less than each letter: the first key in byte order shows it.
 use Rattle.std.proofs.Common.{◌≡◌, ◌∙◌, ℕ, suc, ◌<◌, ◌≤◌, List, [], ◌∷◌, Option, Some, None, String, Global, Ordering, Less, Equal, Greater, string_bytes, nat_cmp, true≢false, false, sym, ap, refl, arith}
 use Rattle.std.specs.Prelude.{option_and_then, slice_index, All}
 use Rattle.std.specs.Map.{keys_of}
@@ -44,6 +44,6 @@ get_is key (object ms) = refl
 pub text_none : (key : List ℕ) (value : Data) (members : Option Members) → members ≡ as_object value → option_and_then (get_member key) members ≡ None → text_under key value ≡ None
 text_none key value members is none = ap (option_and_then as_str) (get_is key value ∙ ap (option_and_then (get_member key)) (sym is) ∙ none)
 
-pub text_none_behind : (first key : List ℕ) (value : Data) (es : List (String Global × Value)) → 36 < slice_index first 0 → All (λ k. is_gt (slice_cmp nat_cmp first (string_bytes k)) ≡ false) (keys_of es)
+pub text_none_after : (first key : List ℕ) (value : Data) (es : List (String Global × Value)) → 36 < slice_index first 0 → All (λ k. is_gt (slice_cmp nat_cmp first (string_bytes k)) ≡ false) (keys_of es)
     → Some (members_view es) ≡ as_object value → text_under (36 ∷ key) value ≡ None
-text_none_behind first key value es behind all is = text_none (36 ∷ key) value (Some (members_view es)) is (none_under first key es behind all)
+text_none_after first key value es behind all is = text_none (36 ∷ key) value (Some (members_view es)) is (none_under first key es behind all)

@@ -8,9 +8,9 @@ use Rattle.serde_json.specs.Data.{Data, depth}
 use Rattle.ref_draft.specs.declared.draft.Draft.{Draft}
 use Rattle.ref_uri.specs.Targets.{Refusal}
 use Rattle.ref_definitions.specs.World.{Document, Layer, document}
-use Rattle.ref_definitions.specs.Places.{Place, root, children_with, children_of, levels_below, places}
+use Rattle.ref_definitions.specs.Places.{Place, root, children_with, children_of, levels, levels_below, places}
 use Rattle.ref_definitions.specs.Wants.{reference_at, schema_at, refusals_of, faults_at, faults}
-use Rattle.ref_findings.specs.Places.{nearest_of, children_near, levels_near, places_near, is_refused, is_faulty}
+use Rattle.ref_findings.specs.Places.{nearest_of, children_near, places_near, is_refused, is_faulty}
 use Rattle.ref_findings.specs.Sources.{Source, is_sound}
 
 neither : (a b : Bool) → (a || b) ≡ false → (a ≡ false) × (b ≡ false)
@@ -49,6 +49,10 @@ same_children [] is = refl
 same_children (p ∷ ps) is =
     let both = neither (is_faulty p) (list_any is_faulty ps) is in
     ap (λ l. l ++ flat_map children_of ps) (place_children p.base p _ both.0) ∙ ap (λ l. children_near p ++ l) (same_children ps both.1)
+
+-- n levels below places, each the joined children of the one above
+abbrev levels_near : ℕ → List Place → List Place
+levels_near n ps = levels children_near n ps
 
 same_levels : (n : ℕ) (ps : List Place) → list_any is_faulty ps ≡ false → list_any is_faulty (levels_near n ps) ≡ false → levels_below n ps ≡ levels_near n ps
 same_levels zero ps here below = refl

@@ -4,7 +4,7 @@ use Rattle.std.specs.Prelude.{ℕ, Bool, true, false, ◌||◌, List, map, Optio
 use Rattle.ref_draft.specs.Children.{walked_children}
 use Rattle.ref_uri.specs.Targets.{Refusal}
 use Rattle.ref_definitions.specs.World.{Document}
-use Rattle.ref_definitions.specs.Places.{Place, child_place, levels, places_by}
+use Rattle.ref_definitions.specs.Places.{Place, child_place, places_by}
 use Rattle.ref_definitions.specs.Wants.{reference_at, schema_at}
 
 -- a base, or the base around it where there is none
@@ -19,10 +19,6 @@ nearest_base p = nearest_of p.outer p.base
 -- the children of a place, under that base
 abbrev pub children_near : Place → List Place
 children_near p = map (child_place p.path (nearest_base p)) (walked_children p.draft p.value)
-
--- n levels below places, each the joined children of the one above
-abbrev pub levels_near : ℕ → List Place → List Place
-levels_near n places = levels children_near n places
 
 -- the places of a document: its levels joined, which end at the depth of the tree
 abbrev pub places_near : Document → List Place

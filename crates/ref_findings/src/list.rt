@@ -10,7 +10,7 @@ ghost use Rattle.ref_findings.specs.Entries.{source_of, IsProblemOf, IsFindingOf
 ghost use Rattle.ref_findings.specs.inner.Adding.{Adds};
 ghost use Rattle.ref_findings.specs.inner.Keywords.{keyword_text};
 ghost use Rattle.ref_findings.specs.inner.Meanings.{IsMaybe};
-ghost use Rattle.ref_findings.specs.inner.Seen.{site_of, seen_survey, survey_in, PlacesStand, known_in, known_among};
+ghost use Rattle.ref_findings.specs.inner.Seen.{site_of, seen_survey, survey_in, PlacesAreThere, known_in, known_among};
 
 use crate::base::nearest_base;
 use crate::bearers::{names_of, own_uri, source_uri, unsound_of, uris_of};
@@ -348,8 +348,8 @@ fn surveyed<'v>(
         ≡ map (survey_in draft) (map source_of sources.now) }
     requires others { map seen_survey others.now
         ≡ map (survey_in draft) (map source_of held.now) }
-    requires stand { AllByRecursion PlacesStand surveys.now }
-    requires others_stand { AllByRecursion PlacesStand others.now }
+    requires are_there { AllByRecursion PlacesAreThere surveys.now }
+    requires others_are_there { AllByRecursion PlacesAreThere others.now }
     ensures findings { IfOk result
         (λ report. AllZip IsFindingOf report.findings.items
         (findings draft (map source_of sources.now) (map source_of held.now))) }

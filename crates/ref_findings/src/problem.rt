@@ -124,7 +124,7 @@ fn missing<'v>(uri: Rc<Uri>, reference: &str) -> Option<Problem<'v>>
 }
 
 // What is wrong with an unresolvable reference, by the URI that it points into and its fault.
-fn leads_nowhere<'v>(uri: Rc<Uri>, reference: &str, error: Error) -> Option<Problem<'v>>
+fn unresolvable_problem<'v>(uri: Rc<Uri>, reference: &str, error: Error) -> Option<Problem<'v>>
     ensures { (fault : Fault) → SaysFault error fault
         → IsMaybe (by_fault uri.value reference.now fault) result }
 {
@@ -158,7 +158,7 @@ impl<'k, 'v> Known<'k, 'v> {
             return Ok(None);
         }
         match fault_at(alloc, self.layers, base, reference)? {
-            Some(error) => Ok(leads_nowhere(uri, reference, error)),
+            Some(error) => Ok(unresolvable_problem(uri, reference, error)),
             None => Ok(None),
         }
     }

@@ -9,7 +9,7 @@ ghost use Rattle.ref_findings.specs.Bearers.{numbered_sites};
 ghost use Rattle.ref_findings.specs.Entries.{source_of};
 ghost use Rattle.ref_index.specs.Listed.{AreNoted};
 ghost use Rattle.ref_index.specs.Visit.{place_of as visited_place};
-ghost use Rattle.ref_findings.specs.inner.Seen.{place_of, site_of, seen_survey, survey_in, sound_in, AreSurveys, PlacesStand};
+ghost use Rattle.ref_findings.specs.inner.Seen.{place_of, site_of, seen_survey, survey_in, sound_in, AreSurveys, PlacesAreThere};
 
 use crate::fault::is_any_faulty;
 use crate::place::Place;
@@ -37,7 +37,7 @@ fn survey_of<'s, 'v>(
     source: &'s Source<'v>,
 ) -> Result<Survey<'s, 'v>, AllocError>
     ensures value { IfOk result (λ s. seen_survey s ≡ survey_in draft (source_of source.now)) }
-    ensures stand { IfOk result PlacesStand }
+    ensures are_there { IfOk result PlacesAreThere }
 {
     let Some(value) = source.value else {
         return Ok(Survey {
@@ -64,7 +64,7 @@ pub(crate) fn surveys_of<'s, 'v>(
     ensures value { IfOk result
         (λ surveys. map seen_survey surveys.items
         ≡ map (survey_in draft) (map source_of sources.now)) }
-    ensures stand { IfOk result (λ surveys. AllByRecursion PlacesStand surveys.items) }
+    ensures are_there { IfOk result (λ surveys. AllByRecursion PlacesAreThere surveys.items) }
 {
     let mut surveys = Vec::with_capacity(alloc, sources.len())?;
     for source in sources {
@@ -118,7 +118,7 @@ fn with_document<'v>(
     value: &'v Value,
 ) -> Result<Walked<'v>, AllocError>
     requires survey { seen_survey survey.now ≡ survey_in draft (source_of survey.now.source.now) }
-    requires stand { PlacesStand survey.now }
+    requires are_there { PlacesAreThere survey.now }
     requires sound { survey.now.is_sound ≡ true }
     requires value { (source_of survey.now.source.now).tree ≡ Some (view value.now) }
     requires faultless { faults
@@ -151,7 +151,7 @@ fn with_source<'v>(
 ) -> Result<Walked<'v>, AllocError>
     requires faultless { faults walked ≡ [] }
     requires survey { seen_survey survey.now ≡ survey_in draft (source_of survey.now.source.now) }
-    requires stand { PlacesStand survey.now }
+    requires are_there { PlacesAreThere survey.now }
     ensures value { IfOk result
         (λ more. more ≡ walked.entry ++ sound_in draft (seen_survey survey.now)) }
     ensures faultless { IfOk result (λ more. faults more ≡ []) }
@@ -174,7 +174,7 @@ fn with_sources<'v>(
 ) -> Result<Walked<'v>, AllocError>
     requires faultless { faults walked ≡ [] }
     requires surveys { AreSurveys draft (map seen_survey surveys.now) }
-    requires stand { AllByRecursion PlacesStand surveys.now }
+    requires are_there { AllByRecursion PlacesAreThere surveys.now }
     ensures value { IfOk result
         (λ more. more ≡ walked.entry ++ flat_map (sound_in draft) (map seen_survey surveys.now)) }
     ensures faultless { IfOk result (λ more. faults more ≡ []) }
@@ -195,8 +195,8 @@ pub(crate) fn index_of<'v>(
 ) -> Result<Index<'v>, AllocError>
     requires surveys { AreSurveys draft (map seen_survey surveys.now) }
     requires others { AreSurveys draft (map seen_survey others.now) }
-    requires stand { AllByRecursion PlacesStand surveys.now }
-    requires others_stand { AllByRecursion PlacesStand others.now }
+    requires are_there { AllByRecursion PlacesAreThere surveys.now }
+    requires others_are_there { AllByRecursion PlacesAreThere others.now }
     ensures value { IfOk result
         (λ index. index
         ≡ flat_map (sound_in draft) (map seen_survey surveys.now)

@@ -73,7 +73,7 @@ fn has_anchor(value: &Value, draft: Draft) -> bool
 }
 
 // Whether a text comes after those that begin with `$`, by its first byte.
-fn is_behind_dollar(text: &str) -> bool
+fn is_after_dollar(text: &str) -> bool
     ensures { result ≡ true → 36 < slice_index text.now 0 }
 {
     match text.as_bytes().first() {
@@ -82,7 +82,7 @@ fn is_behind_dollar(text: &str) -> bool
     }
 }
 
-// Whether no key of a value begins with `$`, as the first one of an object tells: keys are in byte order. Of an empty
+// Whether no key of a value begins with `$`, as the first one of an object shows: keys are in byte order. Of an empty
 // object it isn't known.
 fn lacks_dollar(value: &Value) -> bool
     ensures { result ≡ true → (key : List ℕ) → text_in (36 ∷ key) (view value.now) ≡ None }
@@ -93,7 +93,7 @@ fn lacks_dollar(value: &Value) -> bool
     let Some((first, _)) = members.first_key_value() else {
         return false;
     };
-    is_behind_dollar(first.as_str())
+    is_after_dollar(first.as_str())
 }
 
 // Whether a draft's identifiers are under `$id`.

@@ -1,12 +1,12 @@
 //! The places of a source where schemas are.
 ghost use Rattle.std.specs.Prelude.{◌≡◌, ◌<◌, List, [], ◌∷◌, ◌++◌, map, length, slice_get, Some, IfOk, IfSome, OnOk};
 ghost use Rattle.serde_json.specs.View.{view};
-ghost use Rattle.ref_draft.specs.Children.{AllStand, walked_children};
+ghost use Rattle.ref_draft.specs.Children.{AllAreThere, walked_children};
 ghost use Rattle.ref_paths.specs.Path.{Key};
 ghost use Rattle.ref_draft.specs.Views.{segment_parts, walked_child};
 ghost use Rattle.std.specs.List.{AllByRecursion};
 ghost use Rattle.ref_definitions.specs.Places.{child_place, root};
-ghost use Rattle.ref_index.specs.Listed.{ChildrenStandAt};
+ghost use Rattle.ref_index.specs.Listed.{ChildrenAreAt};
 ghost use Rattle.ref_findings.specs.Places.{children_near, places_near};
 ghost use Rattle.ref_findings.specs.declared.place.Place.{Place};
 ghost use Rattle.ref_findings.specs.inner.Seen.{place_of, IsKeywordBelow};
@@ -114,8 +114,8 @@ fn push_children<'v>(
         × (map place_of more
         ≡ map (child_place path.now base.now.value)
         (walked_children draft (view value.now)))) }
-    ensures stand { OnOk result
-        (AllStand (view value.now) (walked_children draft (view value.now))) }
+    ensures are_there { OnOk result
+        (AllAreThere (view value.now) (walked_children draft (view value.now))) }
 {
     let mut last = None;
     for child in draft.walk_children(alloc, value)? {
@@ -135,8 +135,8 @@ fn push_below<'v>(
         → OnOk result
         ((more : List Place) × (places.new.items ≡ places.old.items ++ more)
         × (map place_of more ≡ children_near (place_of p))) }
-    ensures stand { (p : Place) → slice_get places.old.items number ≡ Some p
-        → OnOk result (ChildrenStandAt (place_of p)) }
+    ensures are_there { (p : Place) → slice_get places.old.items number ≡ Some p
+        → OnOk result (ChildrenAreAt (place_of p)) }
 {
     let place = &places[number];
     let base = nearest_base(alloc, &place.outer, place.id())?;
@@ -171,8 +171,8 @@ pub(crate) fn places_of<'v>(
     ensures value { IfOk result
         (λ places. map place_of places.items
         ≡ places_near (record { uri = uri.now; tree = view value.now; draft = draft })) }
-    ensures stand { IfOk result
-        (λ places. AllByRecursion ChildrenStandAt (map place_of places.items)) }
+    ensures are_there { IfOk result
+        (λ places. AllByRecursion ChildrenAreAt (map place_of places.items)) }
 {
     let root = root_of(alloc, uri, value, draft)?;
     let mut places = Vec::new(alloc);

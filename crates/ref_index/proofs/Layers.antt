@@ -20,7 +20,7 @@ use Rattle.ref_index.specs.Entries.{IsPathOf, IsEntryOf}
 use Rattle.ref_index.specs.inner.Found.{IsNumberOf, IsResourceOf, IsNameOf, FoundLists, Holds}
 use Rattle.ref_index.specs.Faults.{IsFirstFault, faults_of}
 use Rattle.ref_index.specs.inner.Visits.{IsWalked, WalksOver, IsFound, held_of}
-use Rattle.ref_index.specs.Listed.{ChildrenStandAt, wants_of}
+use Rattle.ref_index.specs.Listed.{ChildrenAreAt, wants_of}
 use Rattle.ref_index.proofs.Spots.{numbered_more}
 use Rattle.ref_index.proofs.Visiting.{holds_same}
 
@@ -77,7 +77,7 @@ one_more f layer d = ap (λ l. flat_map f layer ++ l) (sym (append-nil (f d))) �
 pub faults_more : (layer : Layer) (d : Document) → faults layer ≡ [] → flat_map faults_of (places d) ≡ faults (layer ++ d ∷ [])
 faults_more layer d none = ap (λ l. l ++ flat_map faults_of (places d)) (sym none) ∙ one_more (λ e. flat_map faults_of (places e)) layer d
 
--- what a walk tells where it ends, and where it is refused
+-- what holds where a walk ends, and where it is refused
 pub walk_ended : {A : Type 0} (d : Document) (number : ℕ) (old new : Found) (r : Result A UriFault) → WalksOver d number old new r → OnOk r (IsWalked d number old new (places d))
 walk_ended d number old new (Ok done) is = is
 walk_ended d number old new (Err fault) is = tt
@@ -94,6 +94,6 @@ found_more layer d old new is walk = record {
   faultless = sym (faults_more layer d is.faultless) ∙ walk.faultless;
   children = λ e there.
       ⊎_elim (λ own. is.children e own)
-      (λ same. λ p at. All-contains ChildrenStandAt (places d) p (All-from_recursion ChildrenStandAt (places d) walk.children) (subst (λ x. Contains (places x) p) (sym same) at))
+      (λ same. λ p at. All-contains ChildrenAreAt (places d) p (All-from_recursion ChildrenAreAt (places d) walk.children) (subst (λ x. Contains (places x) p) (sym same) at))
       (Contains-push_cases layer d e there);
 }

@@ -164,8 +164,8 @@ name_absent layer entries uri name by_name all none =
     last_name_is uri name layer
     ∙ ap (option_map (λ (n : ℕ × Named). n.1)) (none_found (IsNameOf layer entries) (λ e. e.2) (last_or None (filter (is_under uri name) by_name)) (last_name uri name layer) (name_both layer entries uri name by_name (numbered_names layer) all) none)
 
-pub tells : (layer : Layer) (entries : List Entry) (number n : ℕ) (p : Place) (e : Entry) → IsNumberOf layer entries number n p → slice_get entries n ≡ Some e → IsEntryOf layer e p × (e.document ≡ number)
-tells layer entries number n p e is at =
+pub describes : (layer : Layer) (entries : List Entry) (number n : ℕ) (p : Place) (e : Entry) → IsNumberOf layer entries number n p → slice_get entries n ≡ Some e → IsEntryOf layer e p × (e.document ≡ number)
+describes layer entries number n p e is at =
     let same : is.0 ≡ e = some_is is.0 e (sym is.1 ∙ at) in
     subst (λ x. IsEntryOf layer x p × (x.document ≡ number)) same (is.2, is.3)
 
@@ -173,8 +173,8 @@ tells layer entries number n p e is at =
 abbrev spot : ℕ → List Part → Option Spot
 spot number path = Some (record { document = number; path = path })
 
-pub stands_at : (layer : Layer) (number : ℕ) (p : Place) (e : Entry) → IsEntryOf layer e p → e.document ≡ number → spot number p.path ≡ Some (spot_of e)
-stands_at layer number p e is same = ap (λ n. spot n p.path) (sym same) ∙ ap (spot e.document) (sym is.path.path)
+pub is_there_at : (layer : Layer) (number : ℕ) (p : Place) (e : Entry) → IsEntryOf layer e p → e.document ≡ number → spot number p.path ≡ Some (spot_of e)
+is_there_at layer number p e is same = ap (λ n. spot n p.path) (sym same) ∙ ap (spot e.document) (sym is.path.path)
 
 -- an element that is lent
 pub got : {A : Type 0} (xs : List A) (i : ℕ) (r : Option (Bor A)) → IsItemAt xs i r → option_copied r ≡ slice_get xs i
@@ -185,7 +185,7 @@ got xs i (Some b) (is, lent, within, there, more) = sym (slice_get_read xs (leng
 entry_there : (layer : Layer) (entries : List Entry) (number n : ℕ) (p : Place) (result : Option (Bor Entry)) → IsNumberOf layer entries number n p → option_copied result ≡ slice_get entries n
     → (b : Bor Entry) × (result ≡ Some b) × IsEntryOf layer b.now p × (b.now.document ≡ number)
 entry_there layer entries number n p None is same = absurd (none_is_some is.0 (same ∙ is.1))
-entry_there layer entries number n p (Some b) is same = let at = tells layer entries number n p b.now is (sym same) in (b, refl, at.0, at.1)
+entry_there layer entries number n p (Some b) is same = let at = describes layer entries number n p b.now is (sym same) in (b, refl, at.0, at.1)
 
 -- an entry is that of the last resource under a URI, and says where this is, or there is neither
 abbrev pub IsResourceFound : Layer → List ℕ → Option (Bor Entry) → Type 0
@@ -204,8 +204,8 @@ by_number layer entries uri None (Some r) result last both same = absurd both
 by_number layer entries uri (Some e) None result last both same = absurd both
 by_number layer entries uri (Some e) (Some r) result last both same =
     let found : last_under uri (resources layer) ≡ Some r.1 = last_resource_is uri layer ∙ ap (option_map (λ (x : ℕ × (List ℕ × Place)). x.1)) last in
-    let (b, is, told, number) = entry_there layer entries r.0 e.2 r.1.1 result both.2 same in
-    subst (IsResourceFound layer uri) (sym is) ((r.1, found, told), ap (option_map spot_at) last ∙ stands_at layer r.0 r.1.1 b.now told number)
+    let (b, is, described, number) = entry_there layer entries r.0 e.2 r.1.1 result both.2 same in
+    subst (IsResourceFound layer uri) (sym is) ((r.1, found, described), ap (option_map spot_at) last ∙ is_there_at layer r.0 r.1.1 b.now described number)
 
 -- the entry with the number that a table has for a URI, where it has one
 pub resource_found : (layer : Layer) (entries : List Entry) (uri : List ℕ) (by_uri : List (table.Entry ℕ)) (number : Option ℕ) (result : Option (Bor Entry)) → AllZip (IsResourceOf layer entries) by_uri (numbered_resources layer)

@@ -11,12 +11,12 @@ use Rattle.ref_definitions.specs.Places.{Place, root, places}
 use Rattle.ref_definitions.specs.Resources.{resource_of}
 use Rattle.ref_definitions.specs.Anchors.{named_under}
 use Rattle.ref_definitions.specs.Cached.{identifier_pairs_at, reference_pairs_at}
-use Rattle.ref_definitions.proofs.Standing.{all_stand_where}
+use Rattle.ref_definitions.proofs.Standing.{all_are_there_where}
 use Rattle.ref_index.specs.declared.found.Found.{Found}
 use Rattle.ref_index.specs.declared.queue.Visit.{Visit}
 use Rattle.ref_index.specs.Visit.{place_of}
-use Rattle.ref_index.specs.Listed.{IsLeftOut, AreNoted, none, noted, left_out, IsListingOf, ChildrenStandAt, wants_of}
-use Rattle.ref_index.specs.inner.Visits.{AddsPlaces, AllStandIn, IsWalked, names_of}
+use Rattle.ref_index.specs.Listed.{IsLeftOut, AreNoted, none, noted, left_out, IsListingOf, ChildrenAreAt, wants_of}
+use Rattle.ref_index.specs.inner.Visits.{AddsPlaces, AllAreIn, IsWalked, names_of}
 use Rattle.ref_index.specs.Faults.{IsFirstFault, faults_of}
 use Rattle.ref_index.specs.Spots.{with_number}
 use Rattle.ref_index.proofs.Visiting.{holds_same}
@@ -45,8 +45,8 @@ by_each : (P : Place → Type 0) (ps : List Place) → ((p : Place) → Contains
 by_each P [] each = tt
 by_each P (p ∷ ps) each = (each p (0, omega arith, refl), by_each P ps (λ q there. each q (Contains-append_right (p ∷ []) ps q there)))
 
-pub noted_stand : (d : Document) (below : List Place) → IsListingOf d below → AllStandIn d (root d ∷ below)
-noted_stand d below is = all_noted _ (places d) (root d ∷ below) is.noted (all_stand_where d is.children)
+pub noted_are_there : (d : Document) (below : List Place) → IsListingOf d below → AllAreIn d (root d ∷ below)
+noted_are_there d below is = all_noted _ (places d) (root d ∷ below) is.noted (all_are_there_where d is.children)
 
 pub noted_faultless : (d : Document) (below : List Place) → IsListingOf d below → AllByRecursion (λ p. faults_of p ≡ []) (root d ∷ below)
 noted_faultless d below is = all_noted (λ p. faults_of p ≡ []) (places d) (root d ∷ below) is.noted (each_faultless (places d) is.faultless)
@@ -67,7 +67,7 @@ all_walked d number old new below is adds = record {
       (ap (λ l. held.references ++ l) (same_lists reference_pairs_at (λ p left. (both_empty (identifier_pairs_at p) (reference_pairs_at p) left.pair).1) (places d) (root d ∷ below) is.noted))
       (adds layer held there holds);
   faultless = is.faultless;
-  children = by_each ChildrenStandAt (places d) is.children;
+  children = by_each ChildrenAreAt (places d) is.children;
 }
 
 -- ---- one of several

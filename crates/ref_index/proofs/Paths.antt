@@ -5,16 +5,16 @@ use Rattle.std.specs.Prelude.{unwrap_or, take, length}
 use Rattle.std.specs.List.{last_or}
 use Rattle.ref_paths.specs.Path.{Part, Index, last_part, parent_path}
 
-last_behind : (part : Part) (path : List Part) → part ∷ path ≡ take (length path) (part ∷ path) ++ unwrap_or (last_or (Some part) path) (Index 0) ∷ []
-last_behind part [] = refl
-last_behind part (next ∷ path) = ap (λ ps. part ∷ ps) (last_behind next path)
+last_after : (part : Part) (path : List Part) → part ∷ path ≡ take (length path) (part ∷ path) ++ unwrap_or (last_or (Some part) path) (Index 0) ∷ []
+last_after part [] = refl
+last_after part (next ∷ path) = ap (λ ps. part ∷ ps) (last_after next path)
 
 -- a path that has a parent is that and its last part
-pub last_stands : (path before : List Part) → parent_path path ≡ Some before → path ≡ before ++ last_part path ∷ []
-last_stands [] before is = cc
-last_stands (part ∷ path) before is =
+pub last_is_there : (path before : List Part) → parent_path path ≡ Some before → path ≡ before ++ last_part path ∷ []
+last_is_there [] before is = cc
+last_is_there (part ∷ path) before is =
     let same : take (length path) (part ∷ path) ≡ before = cc in
-    last_behind part path ∙ ap (λ ps. ps ++ last_part (part ∷ path) ∷ []) same
+    last_after part path ∙ ap (λ ps. ps ++ last_part (part ∷ path) ∷ []) same
 
 -- ---- turned round
 

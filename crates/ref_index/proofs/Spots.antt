@@ -14,8 +14,8 @@ pub numbered_append : {X : Type 0} (number : ℕ) (xs ys : List X) → with_numb
 numbered_append number xs ys = map-append (λ x. (number, x)) xs ys
 
 -- numbered lists after others, one of them in two parts
-pub numbered_behind : {X : Type 0} (number : ℕ) (front : List (ℕ × X)) (xs ys : List X) → (front ++ with_number number xs) ++ with_number number ys ≡ front ++ with_number number (xs ++ ys)
-numbered_behind number front xs ys = append_assoc front (with_number number xs) (with_number number ys) ∙ ap (λ l. front ++ l) (sym (numbered_append number xs ys))
+pub numbered_past : {X : Type 0} (number : ℕ) (front : List (ℕ × X)) (xs ys : List X) → (front ++ with_number number xs) ++ with_number number ys ≡ front ++ with_number number (xs ++ ys)
+numbered_past number front xs ys = append_assoc front (with_number number xs) (with_number number ys) ∙ ap (λ l. front ++ l) (sym (numbered_append number xs ys))
 
 -- a document after those of a layer
 numbered_after : {X : Type 0} (has : Document → List X) (from number : ℕ) (layer : Layer) (d : Document) → number ≡ from + length layer

@@ -8,7 +8,7 @@ use Rattle.serde_json.specs.Data.{Data}
 use Rattle.serde_json.specs.View.{view}
 use Rattle.ref_paths.specs.Path.{Part, Key, value_at}
 use Rattle.ref_draft.specs.declared.spec.walk.Child.{Child}
-use Rattle.ref_draft.specs.Children.{Walked, AllStand, walked_children}
+use Rattle.ref_draft.specs.Children.{Walked, AllAreThere, walked_children}
 use Rattle.ref_draft.specs.Views.{segment_parts, walked_child}
 use Rattle.ref_draft.proofs.Lists.{all_append}
 use Rattle.ref_uri.specs.Targets.{Refusal}
@@ -25,20 +25,20 @@ use Rattle.ref_definitions.specs.Cached.{identifier_pairs_at, reference_pairs_at
 use Rattle.ref_index.specs.declared.found.Found.{Found}
 use Rattle.ref_index.specs.declared.queue.Visit.{Visit}
 use Rattle.ref_index.specs.Visit.{path_of, place_of, place_with, value_of}
-use Rattle.ref_index.specs.inner.Visits.{AddsPlace, AddsPlaces, Came, ChildrenCame, IsVisited, IsWalked, AllStandIn, IsAt, names_of}
+use Rattle.ref_index.specs.inner.Visits.{AddsPlace, AddsPlaces, Came, ChildrenCame, IsVisited, IsWalked, AllAreIn, IsAt, names_of}
 use Rattle.ref_index.specs.Faults.{IsFirstFault, faults_of}
-use Rattle.ref_index.specs.Listed.{ChildrenStandAt, wants_of}
+use Rattle.ref_index.specs.Listed.{ChildrenAreAt, wants_of}
 use Rattle.ref_index.specs.Spots.{with_number}
-use Rattle.ref_index.proofs.Spots.{numbered_behind}
+use Rattle.ref_index.proofs.Spots.{numbered_past}
 use Rattle.ref_index.proofs.Visiting.{holds_same}
-use Rattle.ref_definitions.proofs.Standing.{StandsAt, below_one}
+use Rattle.ref_definitions.proofs.Standing.{IsValueAt, below_one}
 
 -- ---- values at paths
 
-stands_at : (d : Document) (vs : List Visit) (i : ℕ) (v : Visit) → slice_get vs i ≡ Some v → AllStandIn d (map place_of vs) → value_at d.tree (place_of v).path ≡ Some (place_of v).value
-stands_at d [] i v at all = cc
-stands_at d (w ∷ vs) zero v at all = let same : w ≡ v = cc in subst (λ u. value_at d.tree (place_of u).path ≡ Some (place_of u).value) same all.0
-stands_at d (w ∷ vs) (suc i) v at all = stands_at d vs i v at all.1
+is_there_at : (d : Document) (vs : List Visit) (i : ℕ) (v : Visit) → slice_get vs i ≡ Some v → AllAreIn d (map place_of vs) → value_at d.tree (place_of v).path ≡ Some (place_of v).value
+is_there_at d [] i v at all = cc
+is_there_at d (w ∷ vs) zero v at all = let same : w ≡ v = cc in subst (λ u. value_at d.tree (place_of u).path ≡ Some (place_of u).value) same all.0
+is_there_at d (w ∷ vs) (suc i) v at all = is_there_at d vs i v at all.1
 
 -- ---- the first fault
 
@@ -78,7 +78,7 @@ added_more f front x visited p =
 numbered_added : {A : Type 0} (f : Place → List A) (number : ℕ) (front : List (ℕ × A)) (x : List A) (visited : List Place) (p : Place)
     → (front ++ with_number number (x ++ flat_map f visited)) ++ with_number number (f p) ≡ front ++ with_number number (x ++ flat_map f (visited ++ p ∷ []))
 numbered_added f number front x visited p =
-    numbered_behind number front (x ++ flat_map f visited) (f p) ∙ ap (λ l. front ++ with_number number l) (flat_map_more f x visited p)
+    numbered_past number front (x ++ flat_map f visited) (f p) ∙ ap (λ l. front ++ with_number number l) (flat_map_more f x visited p)
 
 pub adds_more : (d : Document) (number : ℕ) (old new newer : Found) (visited : List Place) (p : Place) → value_at d.tree p.path ≡ Some p.value
     → AddsPlaces d number visited old new → AddsPlace number None p new newer → AddsPlaces d number (visited ++ p ∷ []) old newer
@@ -100,20 +100,20 @@ pub walked_more : (d : Document) (number : ℕ) (old new newer : Found) (visited
     → IsWalked d number old new visited → IsVisited number None v new newer queue after → IsWalked d number old newer (visited ++ place_of v ∷ [])
 walked_more d number old new newer visited v queue after at walk visit = record {
   added = adds_more d number old new newer visited (place_of v) at walk.added visit.added;
-  children = all_append ChildrenStandAt visited (place_of v ∷ []) walk.children (visit.stand, tt);
+  children = all_append ChildrenAreAt visited (place_of v ∷ []) walk.children (visit.are_there, tt);
   faultless = flat_map-append faults_of visited (place_of v ∷ []) ∙ ap (λ l. l ++ (faults_of (place_of v) ++ [])) walk.faultless ∙ append-nil (faults_of (place_of v)) ∙ visit.faultless;
 }
 
-grown_stand : (d : Document) (vs more : List Visit) (v : Visit) → value_at d.tree (place_of v).path ≡ Some (place_of v).value → AllStandIn d (map place_of vs)
-    → map place_of more ≡ children_of (place_of v) → AllStand (value_of v.value) (walked_children v.draft (value_of v.value)) → AllStandIn d (map place_of (vs ++ more))
-grown_stand d vs more v at all children stand =
-    subst (AllStandIn d) (sym (map-append place_of vs more))
-    (all_append (StandsAt d.tree) (map place_of vs) (map place_of more) all (subst (AllStandIn d) (sym children) (below_one d.tree (place_of v) (place_of v).base at stand)))
+grown_are_there : (d : Document) (vs more : List Visit) (v : Visit) → value_at d.tree (place_of v).path ≡ Some (place_of v).value → AllAreIn d (map place_of vs)
+    → map place_of more ≡ children_of (place_of v) → AllAreThere (value_of v.value) (walked_children v.draft (value_of v.value)) → AllAreIn d (map place_of (vs ++ more))
+grown_are_there d vs more v at all children are_there =
+    subst (AllAreIn d) (sym (map-append place_of vs more))
+    (all_append (IsValueAt d.tree) (map place_of vs) (map place_of more) all (subst (AllAreIn d) (sym children) (below_one d.tree (place_of v) (place_of v).base at are_there)))
 
 pub advance : (d : Document) (number : ℕ) (old new newer : Found) (queue after : List Visit) (head : ℕ) (v : Visit) → head < length queue → slice_get queue head ≡ Some v
     → IsAt d number old new queue head → IsVisited number None v new newer queue after → IsAt d number old newer after (head + 1)
 advance d number old new newer queue after head v within here is visit =
-    let at = stands_at d queue head v here is.stand in
+    let at = is_there_at d queue head v here is.are_there in
     let vs = queue ++ visit.more in
     let front = visited_is queue visit.more head v within here in
     let moved = step children_of d (map place_of (take head queue)) (map place_of (drop (head + 1) queue)) (place_of v) (subst (IsQueueBy children_of d (map place_of (take head queue))) (head_is queue head v within here) is.order) in
@@ -121,7 +121,7 @@ advance d number old new newer queue after head v within here is visit =
     let result : IsAt d number old newer vs (head + 1) = record {
       within = omega (arith, length-append queue visit.more);
       order = subst (λ l. IsQueueBy children_of d l (map place_of (drop (head + 1) vs))) (sym front) (subst (IsQueueBy children_of d (map place_of (take head queue) ++ place_of v ∷ [])) rest moved);
-      stand = grown_stand d queue visit.more v at is.stand visit.children visit.stand;
+      are_there = grown_are_there d queue visit.more v at is.are_there visit.children visit.are_there;
       walk = subst (IsWalked d number old newer) (sym front) (walked_more d number old new newer (map place_of (take head queue)) v queue after at is.walk visit);
     } in
     subst (λ l. IsAt d number old newer l (head + 1)) (sym visit.grown) result
@@ -137,11 +137,11 @@ begin d number old new queue after v one is visit =
     let result : IsAt d number old new vs 1 = record {
       within = omega arith;
       order = order;
-      stand = grown_stand d (v ∷ []) visit.more v at (at, tt) visit.children visit.stand;
+      are_there = grown_are_there d (v ∷ []) visit.more v at (at, tt) visit.children visit.are_there;
       walk = record {
         added = adds_root d number old new (place_of v) is visit.added;
         faultless = append-nil (faults_of (place_of v)) ∙ visit.faultless;
-        children = (visit.stand, tt);
+        children = (visit.are_there, tt);
       };
     } in
     subst (λ l. IsAt d number old new l 1) same result
@@ -192,12 +192,12 @@ none_came path base queue children none = ([], sym (append-nil queue), sym (ap (
 
 -- the children of the place at an index of the queue came to it
 pub came : (queue after : List Visit) (index : ℕ) (w v : Visit) (path : List Part) (value : Data) (base : List ℕ) (children : List Walked) → w ≡ get_or queue index w → slice_get queue index ≡ Some v → path_of w.value ≡ path
-    → value_of w.value ≡ value → children ≡ walked_children w.draft value → AllStand value children → Came path base children queue after → ChildrenCame (path_of v.value) (value_of v.value) v.draft base queue after
-came queue after index w v path value base children read there path_is is are stand pushed =
+    → value_of w.value ≡ value → children ≡ walked_children w.draft value → AllAreThere value children → Came path base children queue after → ChildrenCame (path_of v.value) (value_of v.value) v.draft base queue after
+came queue after index w v path value base children read there path_is is are are_there pushed =
     subst (λ u. ChildrenCame (path_of u.value) (value_of u.value) u.draft base queue after) (read ∙ get_or_from_slice_get queue index v w there)
     (subst (λ p. ChildrenCame p (value_of w.value) w.draft base queue after) (sym path_is)
     (subst (λ d. ChildrenCame path d w.draft base queue after) (sym is)
-    (subst (λ cs. Came path base cs queue after) are pushed, subst (AllStand value) are stand)))
+    (subst (λ cs. Came path base cs queue after) are pushed, subst (AllAreThere value) are are_there)))
 
 pub nothing : {X : Type 0} (xs : List X) → length xs ≡ 0 → xs ≡ []
 nothing [] none = refl

@@ -13,13 +13,14 @@ use Rattle.std.specs.Borrow.{Bor}
 use Rattle.ref_index.specs.declared.entry.FoundName.{FoundName}
 
 -- a path in one of a layer's documents leads to a place's value
-pub record IsPathOf (layer : Layer) (number : ℕ) (parts : List JsonPointerSegment) (p : Place) : Type 0 where
+pub record IsPathOf (layer : Layer) (number : ℕ) (parts : List JsonPointerSegment) (p : Place)
+    : Type 0 where
   pub document : Document
   pub numbered : slice_get layer number ≡ Some document
   pub path : map part_of parts ≡ p.path
   pub value : value_at document.tree p.path ≡ Some p.value
 
--- an entry tells a place: where it is in one of a layer's documents, and its value where its document is borrowed
+-- an entry describes a place: where it is in one of a layer's documents, and its value where its document is borrowed
 pub record IsEntryOf (layer : Layer) (e : Entry) (p : Place) : Type 0 where
   pub path : IsPathOf layer e.document e.path.items p
   pub borrowed : IfSome e.borrowed (λ value. view value.now ≡ p.value)

@@ -5,8 +5,8 @@ use Rattle.ref_definitions.specs.Places.{Place, root, places}
 use Rattle.ref_definitions.specs.Resources.{resource_of}
 use Rattle.ref_definitions.specs.Anchors.{named_at}
 use Rattle.ref_definitions.specs.Wants.{Want, wants_at}
-use Rattle.ref_definitions.specs.Agreement.{ChildrenStand}
-use Rattle.ref_draft.specs.Children.{AllStand, walked_children}
+use Rattle.ref_definitions.specs.Agreement.{ChildrenAreThere}
+use Rattle.ref_draft.specs.Children.{AllAreThere, walked_children}
 use Rattle.ref_definitions.specs.Cached.{pairs_at}
 use Rattle.ref_index.specs.Faults.{faults_of}
 
@@ -15,8 +15,8 @@ abbrev pub wants_of : Place → List Want
 wants_of p = wants_at p.base p.value
 
 -- each child of a place is at its path there
-abbrev pub ChildrenStandAt : Place → Type 0
-ChildrenStandAt p = AllStand p.value (walked_children p.draft p.value)
+abbrev pub ChildrenAreAt : Place → Type 0
+ChildrenAreAt p = AllAreThere p.value (walked_children p.draft p.value)
 
 -- no identifier and no anchor of a place counts, it wants nothing, and nothing is resolved there
 pub record IsLeftOut (p : Place) : Type 0 where
@@ -36,4 +36,4 @@ pub data AreNoted : List Place → List Place → Type 0 where
 pub record IsListingOf (d : Document) (below : List Place) : Type 0 where
   pub noted : AreNoted (places d) (root d ∷ below)
   pub faultless : flat_map faults_of (places d) ≡ []
-  pub children : ChildrenStand d
+  pub children : ChildrenAreThere d

@@ -6,7 +6,7 @@ ghost use Rattle.ref_uri.specs.Components.{scheme};
 ghost use Rattle.ref_uri.specs.Targets.{uri_against};
 ghost use Rattle.ref_parts.specs.Table.{with_value};
 ghost use Rattle.ref_definitions.specs.World.{Document as WorldDocument};
-ghost use Rattle.ref_definitions.specs.Agreement.{ChildrenStand};
+ghost use Rattle.ref_definitions.specs.Agreement.{ChildrenAreThere};
 ghost use Rattle.ref_definitions.specs.Places.{Place};
 ghost use Rattle.ref_definitions.specs.Resources.{last_under, resources};
 ghost use Rattle.ref_definitions.specs.Anchors.{last_named, names};
@@ -75,7 +75,7 @@ impl<'a> Index<'a> {
             × Holds (map document_of documents.items) found
             (held_of (map document_of documents.items) wants) }
         requires children { (d : WorldDocument) → Contains (map document_of documents.items) d
-            → ChildrenStand d }
+            → ChildrenAreThere d }
         ensures value { IfOk result (λ index. index ≡ map document_of documents.entry.items) }
     {
         // (what was only for the walk is let go before the tables take memory)
@@ -113,8 +113,8 @@ impl<'a> Index<'a> {
     }
 
     /// Each child of a place of these documents is at its path. A law; the call does nothing.
-    pub fn children_stand(&self)
-        ensures law { (d : WorldDocument) → Contains self.now d → ChildrenStand d }
+    pub fn children_are_there(&self)
+        ensures law { (d : WorldDocument) → Contains self.now d → ChildrenAreThere d }
     {
         let _ = &self.by_uri;
     }

@@ -17,7 +17,7 @@ ghost use Rattle.ref_index.specs.Entries.{IsEntryOf};
 ghost use Rattle.ref_index.specs.Visit.{path_of, place_of, place_with, value_of};
 ghost use Rattle.ref_index.specs.declared.queue.Visit.{Visit};
 ghost use Rattle.ref_index.specs.Document.{document_of};
-ghost use Rattle.ref_index.specs.inner.Visits.{meta_schema_uri, AddsPlace, GivesUri, RefusesFor, StandsIn, Came, ChildrenCame, IsVisited, WalksOver, under_document, names_under, with_meanings};
+ghost use Rattle.ref_index.specs.inner.Visits.{meta_schema_uri, AddsPlace, GivesUri, RefusesFor, IsThereIn, Came, ChildrenCame, IsVisited, WalksOver, under_document, names_under, with_meanings};
 ghost use Rattle.ref_index.specs.Faults.{IsFirstFault, faults_of};
 
 use crate::document::Document;
@@ -56,7 +56,7 @@ fn entry_of<'w, 'a: 'w>(
     place: &Visit<'w, 'a>,
     base: &Rc<Uri>,
 ) -> Result<Entry<'a>, AllocError>
-    ensures entry { (layer : Layer) → StandsIn layer number (place_of place.now)
+    ensures entry { (layer : Layer) → IsThereIn layer number (place_of place.now)
         → (place_of place.now).base ≡ Ok base.now.value
         → IfOk result (λ entry. IsEntryOf layer entry (place_of place.now)) }
     ensures document { IfOk result (λ entry. entry.document ≡ number) }
@@ -162,7 +162,7 @@ fn add_place<'w, 'a: 'w>(
     base: &Rc<Uri>,
 ) -> Result<(), AllocError>
     ensures { (layer : Layer) (held : FoundLists)
-        → Holds layer found.old held → StandsIn layer number (place_of place.now)
+        → Holds layer found.old held → IsThereIn layer number (place_of place.now)
         → option_map (λ text. text.now) id.entry
         ≡ identifier (place_of place.now).draft (place_of place.now).value
         → (place_of place.now).base ≡ Ok base.now.value

@@ -41,10 +41,10 @@ says_another e f other says is = let said = unretrieved_says e f is says in othe
 
 -- ---- the reference of a place
 
-pub leads_nowhere : (world : World) (number : ℕ) (path : List Part) (base reference : List ℕ) (text : Option (List ℕ)) (f : Fault) → text ≡ Some reference
+pub unresolvable_problem : (world : World) (number : ℕ) (path : List Part) (base reference : List ℕ) (text : Option (List ℕ)) (f : Fault) → text ≡ Some reference
     → lookup world (record { base = base; scope = [] }) reference ≡ Err f
     → dangling_from world number path (Ok base) text ≡ record { document = number; path = path; reference = reference; fault = f } ∷ []
-leads_nowhere world number path base reference text f is leads =
+unresolvable_problem world number path base reference text f is leads =
     ap (dangling_from world number path (Ok base)) is ∙ ap (where_fault number path reference) leads
 
 -- ---- what a call gives

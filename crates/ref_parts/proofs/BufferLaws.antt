@@ -55,29 +55,29 @@ module _ {V : Type 0} where
       λ i. (first i, second i, s.value) ∷ rest i
 
   -- entries whose texts are put after a buffer
-  entries_behind : (before texts : List ℕ) (ss : List (Slot V)) → entries_in (before ++ texts) (map (slot_after (length before)) ss) ≡ entries_in texts ss
-  entries_behind before texts [] = refl
-  entries_behind before texts (s ∷ ss) =
+  entries_after : (before texts : List ℕ) (ss : List (Slot V)) → entries_in (before ++ texts) (map (slot_after (length before)) ss) ≡ entries_in texts ss
+  entries_after before texts [] = refl
+  entries_after before texts (s ∷ ss) =
       let first = text_moved s.first s.second before texts in
       let second = text_moved s.second s.end before texts in
-      let rest = entries_behind before texts ss in
+      let rest = entries_after before texts ss in
       λ i. (first i, second i, s.value) ∷ rest i
 
-  within_behind : (before texts : List ℕ) (ss : List (Slot V)) → All (IsWithin texts) ss → All (IsWithin (before ++ texts)) (map (slot_after (length before)) ss)
-  within_behind before texts [] within = All-nil (IsWithin (before ++ texts))
-  within_behind before texts (s ∷ ss) within =
+  within_after : (before texts : List ℕ) (ss : List (Slot V)) → All (IsWithin texts) ss → All (IsWithin (before ++ texts)) (map (slot_after (length before)) ss)
+  within_after before texts [] within = All-nil (IsWithin (before ++ texts))
+  within_after before texts (s ∷ ss) within =
       let here : IsWithin texts s = All-head (IsWithin texts) s ss within in
-      All-cons (IsWithin (before ++ texts)) (slot_after (length before) s) (map (slot_after (length before)) ss) (omega (arith, here.0), omega (arith, here.1), omega (arith, here.2, length-append before texts), subst IsUtf8 (sym (text_moved s.first s.second before texts)) here.3, subst IsUtf8 (sym (text_moved s.second s.end before texts)) here.4) (within_behind before texts ss (All-tail (IsWithin texts) s ss within))
+      All-cons (IsWithin (before ++ texts)) (slot_after (length before) s) (map (slot_after (length before)) ss) (omega (arith, here.0), omega (arith, here.1), omega (arith, here.2, length-append before texts), subst IsUtf8 (sym (text_moved s.first s.second before texts)) here.3, subst IsUtf8 (sym (text_moved s.second s.end before texts)) here.4) (within_after before texts ss (All-tail (IsWithin texts) s ss within))
 
   pub entries_joined : (old texts : List ℕ) (ss more : List (Slot V)) → All (IsWithin old) ss → entries_in (old ++ texts) (ss ++ map (slot_after (length old)) more) ≡ entries_in old ss ++ entries_in texts more
   entries_joined old texts ss more within =
       map-append (entry_in (old ++ texts)) ss (map (slot_after (length old)) more)
       ∙ ap (λ l. l ++ entries_in (old ++ texts) (map (slot_after (length old)) more)) (entries_grown old texts ss within)
-      ∙ ap (λ l. entries_in old ss ++ l) (entries_behind old texts more)
+      ∙ ap (λ l. entries_in old ss ++ l) (entries_after old texts more)
 
   pub within_joined : (old texts : List ℕ) (ss more : List (Slot V)) → All (IsWithin old) ss → All (IsWithin texts) more → All (IsWithin (old ++ texts)) (ss ++ map (slot_after (length old)) more)
   within_joined old texts ss more within also =
-      All-append (IsWithin (old ++ texts)) ss (map (slot_after (length old)) more) (within_grown old texts ss within) (within_behind old texts more also)
+      All-append (IsWithin (old ++ texts)) ss (map (slot_after (length old)) more) (within_grown old texts ss within) (within_after old texts more also)
 
   -- an entry more, whose texts are put after the others
   pub entry_added : (s : Slot V) (texts first second : List ℕ) → s.first ≡ length texts → s.second ≡ length texts + length first → s.end ≡ length texts + length first + length second

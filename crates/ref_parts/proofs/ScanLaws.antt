@@ -10,7 +10,7 @@ use Rattle.std.proofs.lemmas.List.Folds.{concat-append}
 use Rattle.std.proofs.lemmas.List.Sums.{prefix_len-le-length}
 use Rattle.ref_parts.specs.Pointer.{is_escaped}
 use Rattle.ref_parts.specs.inner.Words.{IsPlain, MarksFirst}
-use Rattle.ref_parts.proofs.WordLaws.{tells_first, length_digits, place_behind, place_before, plain_append, position_some, position_none}
+use Rattle.ref_parts.proofs.WordLaws.{shows_first, length_digits, place_past, place_before, plain_append, position_some, position_none}
 
 -- ---- words one after another
 
@@ -49,7 +49,7 @@ chunk_at (suc k) xs (suc i) within = chunk_at k (drop 8 xs) i (omega arith) ∙ 
 
 -- a word whose marks are none
 pub plain_word : (bytes : List ℕ) (m : ℕ) → MarksFirst is_escaped bytes m → m ≡ 0 → IsPlain bytes
-plain_word bytes m marked = (tells_first is_escaped bytes m marked).none
+plain_word bytes m marked = (shows_first is_escaped bytes m marked).none
 
 -- where the first mark is
 pub found_in_words : (ws : List (List ℕ)) (n m : ℕ) → ((i : ℕ) → i < length ws → length (get_or ws i []) ≡ 8) → n < length ws → IsPlain (concat (take n ws)) → MarksFirst is_escaped (get_or ws n []) m → 0 < m
@@ -57,12 +57,12 @@ pub found_in_words : (ws : List (List ℕ)) (n m : ℕ) → ((i : ℕ) → i < l
 found_in_words ws n m eight within plain marked some =
     let word = get_or ws n [] in
     let behind = concat (drop (suc n) ws) in
-    let found = (tells_first is_escaped word m marked).first some in
+    let found = (shows_first is_escaped word m marked).first some in
     let here : count_trailing_zeros 64 m / 8 ≡ position_or_len is_escaped word =
     ap (λ k. count_trailing_zeros k m / 8) (omega (arith, length_digits word, eight n within)) ∙ found.1 in
     let front = length_concat ws eight n (omega arith) in
     let place : position_or_len is_escaped (concat ws) ≡ n * 8 + position_or_len is_escaped word =
-    ap (position_or_len is_escaped) (concat_split ws n within) ∙ place_behind is_escaped (concat (take n ws)) (word ++ behind) plain
+    ap (position_or_len is_escaped) (concat_split ws n within) ∙ place_past is_escaped (concat (take n ws)) (word ++ behind) plain
     ∙ ap (λ k. length (concat (take n ws)) + k) (place_before is_escaped word behind found.0) ∙ ap (λ k. k + position_or_len is_escaped word) front in
     let long : length (concat ws) ≡ n * 8 + (8 + length behind) =
     ap length (concat_split ws n within) ∙ length-append (concat (take n ws)) (word ++ behind) ∙ omega (arith, front, length-append word behind, eight n within) in
@@ -105,10 +105,10 @@ some_in_front p xs ys i found =
     let same = place_before p xs ys at.0 in
     position_some p (xs ++ ys) i (omega (arith, at.0, same, length-append xs ys)) (omega (arith, at.1, same))
 
-pub some_behind : (p : ℕ → Bool) (xs ys : List ℕ) (i : ℕ) → position p xs ≡ None → position p ys ≡ Some i → Some (length xs + i) ≡ position p (xs ++ ys)
-some_behind p xs ys i none found =
+pub some_after : (p : ℕ → Bool) (xs ys : List ℕ) (i : ℕ) → position p xs ≡ None → position p ys ≡ Some i → Some (length xs + i) ≡ position p (xs ++ ys)
+some_after p xs ys i none found =
     let at = place_of_some p ys i found in
-    let same = place_behind p xs ys (place_of_none p xs none) in
+    let same = place_past p xs ys (place_of_none p xs none) in
     position_some p (xs ++ ys) (length xs + i) (omega (arith, at.0, same, length-append xs ys)) (omega (arith, at.1, same))
 
 pub none_at_all : (p : ℕ → Bool) (xs ys : List ℕ) → position p xs ≡ None → position p ys ≡ None → None ≡ position p (xs ++ ys)

@@ -241,7 +241,7 @@ then_greater Less = refl
 then_greater Equal = refl
 then_greater Greater = refl
 
--- a number that the first text tells doesn't tell equal pairs apart
+-- a number that is read from the first text doesn't tell equal pairs apart
 equal_keys : (shared w : ℕ) (p q : List ℕ × List ℕ) → w ≡ word_at shared p.0 → eq_by_cmp pair_cmp p q ≡ eq_by_cmp key_cmp (w, p) (word_at shared q.0, q)
 equal_keys shared w p q is =
     let number : Ordering = nat_cmp (word_at shared q.0) w in

@@ -1,4 +1,9 @@
--- What `src/scan.rt` rests on: bytes as numbers, subtraction with borrow byte by byte, and the lowest mark.
+-- What `src/scan.rt` rests on: bytes as numbers, subtraction with borrow byte by byte, and the lowest mark. In this order:
+-- 1. A word of bytes is a number, its first byte the lowest.
+-- 2. Marks of zeros: taking 1 from each byte borrows at a byte that is 0, so the high bit of the first such byte is marked, and of none
+--    before it. Beyond the first mark a borrow may make others, which are not looked at.
+-- 3. A byte is a given one where its exclusive or with that one is 0; the marks of two tests are joined by `or`.
+-- 4. The count of zeros below the lowest mark shows where the first byte is that passes.
 use Rattle.std.proofs.Common.{◌≡◌, ⊎_elim, add-zero, ℕ, zero, suc, ◌+◌, ◌-◌, ◌*◌, ◌/◌, ◌%◌, ◌^◌, ◌<◌, Bool, true, false, not, ◌||◌, cond, eqb, ltb, List, [], ◌∷◌, ◌++◌, length, length-append, map, All, bit_and, bit_or, bit_xor, refl, sym, ap, ◌∙◌, subst, zero-add, arith}
 use Rattle.std.specs.Prelude.{MatchBool, Some, None}
 use Rattle.std.specs.Int.{from_le_bytes, w64}
@@ -221,23 +226,23 @@ abbrev pub digits : List ℕ → ℕ
 digits [] = 0
 digits (b ∷ bytes) = eight (digits bytes)
 
--- the lowest mark tells where the first byte is that passes
-pub record Tells (m len place low : ℕ) : Type 0 where
+-- the lowest mark shows where the first byte is that passes
+pub record Shows (m len place low : ℕ) : Type 0 where
   pub none : m ≡ 0 → place ≡ len
   pub first : 0 < m → (place < len) × (low / 8 ≡ place)
 
-pub tells_first : (p : ℕ → Bool) (bytes : List ℕ) (m : ℕ) → MarksFirst p bytes m → Tells m (length bytes) (position_or_len p bytes) (count_trailing_zeros (digits bytes) m)
-tells_first p [] m is = record { none = λ _. refl; first = λ some. absurd (omega arith) }
-tells_first p (b ∷ bytes) m marked =
+pub shows_first : (p : ℕ → Bool) (bytes : List ℕ) (m : ℕ) → MarksFirst p bytes m → Shows m (length bytes) (position_or_len p bytes) (count_trailing_zeros (digits bytes) m)
+shows_first p [] m is = record { none = λ _. refl; first = λ some. absurd (omega arith) }
+shows_first p (b ∷ bytes) m marked =
     let u = marked.0 in
     let k = digits bytes in
-    elim (p b) as (λ t. MatchBool t (m ≡ 256 * u + 128) ((m ≡ 256 * u) × MarksFirst p bytes u) → Tells m (length (b ∷ bytes)) (cond (not t) (1 + position_or_len p bytes) 0) (count_trailing_zeros (eight k) m)) [
+    elim (p b) as (λ t. MatchBool t (m ≡ 256 * u + 128) ((m ≡ 256 * u) × MarksFirst p bytes u) → Shows m (length (b ∷ bytes)) (cond (not t) (1 + position_or_len p bytes) 0) (count_trailing_zeros (eight k) m)) [
       | true ↦ λ is. record {
         none = λ zero. absurd (omega arith);
         first = λ some. (omega arith, ap (λ z. count_trailing_zeros (eight k) z / 8) is ∙ ap (λ z. z / 8) (trailing_mark k u));
       }
       | false ↦ λ is.
-          let rest = tells_first p bytes u is.1 in
+          let rest = shows_first p bytes u is.1 in
           record {
             none = λ zero. let all = rest.none (omega arith) in omega arith;
             first = λ some. let found = rest.first (omega arith) in (omega (arith, found.0), ap (λ z. count_trailing_zeros (eight k) z / 8) is.0 ∙ ap (λ z. z / 8) (trailing_none k u) ∙ omega (arith, found.1));
@@ -251,12 +256,12 @@ length_digits (b ∷ bytes) = let rest = length_digits bytes in omega (arith, re
 -- ---- where a text has its first
 
 -- after what has none
-pub place_behind : (p : ℕ → Bool) (xs ys : List ℕ) → position_or_len p xs ≡ length xs → position_or_len p (xs ++ ys) ≡ length xs + position_or_len p ys
-place_behind p [] ys plain = omega arith
-place_behind p (x ∷ xs) ys plain =
+pub place_past : (p : ℕ → Bool) (xs ys : List ℕ) → position_or_len p xs ≡ length xs → position_or_len p (xs ++ ys) ≡ length xs + position_or_len p ys
+place_past p [] ys plain = omega arith
+place_past p (x ∷ xs) ys plain =
     elim (p x) as (λ t. cond (not t) (1 + position_or_len p xs) 0 ≡ suc (length xs) → cond (not t) (1 + position_or_len p (xs ++ ys)) 0 ≡ suc (length xs) + position_or_len p ys) [
       | true ↦ λ none. absurd (omega (arith, none))
-      | false ↦ λ more. let rest = place_behind p xs ys (omega (arith, more)) in omega (arith, rest)
+      | false ↦ λ more. let rest = place_past p xs ys (omega (arith, more)) in omega (arith, rest)
     ] plain
 
 -- before what it is in
@@ -269,7 +274,7 @@ place_before p (x ∷ xs) ys within =
     ] within
 
 pub plain_append : (p : ℕ → Bool) (xs ys : List ℕ) → position_or_len p xs ≡ length xs → position_or_len p ys ≡ length ys → position_or_len p (xs ++ ys) ≡ length (xs ++ ys)
-plain_append p xs ys plain also = let all = place_behind p xs ys plain in omega (arith, all, also, length-append xs ys)
+plain_append p xs ys plain also = let all = place_past p xs ys plain in omega (arith, all, also, length-append xs ys)
 
 pub position_some : (p : ℕ → Bool) (xs : List ℕ) (i : ℕ) → position_or_len p xs < length xs → i ≡ position_or_len p xs → Some i ≡ position p xs
 position_some p xs i within is = ap (λ k. Some k) is ∙ sym (ap (λ t. cond t (Some (position_or_len p xs)) None) (lt-ltb _ _ within))

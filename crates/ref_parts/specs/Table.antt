@@ -22,7 +22,8 @@ abbrev pub with_value : {V : Type 0} → (V → V) → Entry V → Entry V
 with_value h e = (e.0, e.1, h e.2)
 
 -- a call of f at a `&mut` to any value puts there what a function gives of it, and leaves f as it was
-abbrev pub ChangesBy : {F V : Type 0} → Mut F (MutBor V × Unit {0}) (Unit {0} × (MutBor V × Unit {0})) → F → (V → V) → Type 0
+abbrev pub ChangesBy : {F V : Type 0}
+    → Mut F (MutBor V × Unit {0}) (Unit {0} × (MutBor V × Unit {0})) → F → (V → V) → Type 0
 ChangesBy {F} {V} g f h =
     (value value' : V) (f' : F) → CalledAtMut g f value tt f' value' → (value' ≡ h value) × (f' ≡ f)
 

@@ -1,5 +1,5 @@
-//! Paths into JSON values, pointer text (RFC 6901), and the two containers that a reference resolver shares: a list with
-//! shared tails and a small map.
+//! Pointer text (RFC 6901), and the containers that a reference resolver shares: a list with shared tails, a small map, and a
+//! sorted table. The paths into JSON values that pointer text means are those of `ref_paths`, which are re-exported here.
 //!
 //! Read `specs/Path.antt` of `ref_paths` first, which says what a path is and which value is at it, then `specs/Pointer.antt`
 //! here, which says what pointer text means. `laws` has what holds of both.

@@ -116,7 +116,7 @@ impl<V: Drop> TableEntries<V> {
         let mut slots = slots;
         let before = self.texts.len();
         self.texts.extend_from_slice(texts.as_slice())?;
-        move_behind(before, slots.as_mut_slice());
+        move_after(before, slots.as_mut_slice());
         self.slots.append(&mut slots)?;
         Ok(())
     }
@@ -218,7 +218,7 @@ impl<V> SortedTable<V> {
 }
 
 // Moves the offsets of slots, whose texts are after so many more bytes.
-fn move_behind<V>(before: usize, slots: &mut [Slot<V>])
+fn move_after<V>(before: usize, slots: &mut [Slot<V>])
     requires { (texts : List ℕ) × All (IsWithin texts) slots.old × before + length texts < 2 ^ 64 }
     ensures value { slots.new ≡ map (slot_after before) slots.old }
     ensures len { length slots.new ≡ length slots.old }

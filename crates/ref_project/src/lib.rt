@@ -1,6 +1,6 @@
 //! The schema files that a command line names, with what they want from maps, and the subcommands that ask about them: what is
 //! wrong with their references (`lint`), where a reference leads (`resolve`), which subschemas they have (`places`), and which
-//! file refers to which (`graph`). `bundle` and `serve` themselves are in `patchsard`.
+//! file refers to which (`graph`). `bundle` is in `ref_bundle_files`, and `serve` in `patchsard`.
 #![tactic(auto)]
 
 mod describe;

@@ -15,9 +15,9 @@ use std::rc::Rc;
 
 /// An empty document in place of each that isn't there.
 #[derive(Drop)]
-struct StandIns;
+struct Substitutes;
 
-impl Retrieve for StandIns {
+impl Retrieve for Substitutes {
     ghost use Rattle.ref_definitions.specs.Retrievers.{any_retriever};
 
     ghost meaning = { λ _. any_retriever };
@@ -85,7 +85,7 @@ fn prepared<'d>(
     for number in numbers {
         builder = with_document(builder, given, faulty, *number)?;
     }
-    builder.retriever(StandIns).prepare()
+    builder.retriever(Substitutes).prepare()
 }
 
 // The builder with the document that has a number.
@@ -128,7 +128,7 @@ fn prepared_above<'d, 'o: 'd>(
     for number in numbers {
         builder = with_copy(builder, given, faulty, *number)?;
     }
-    builder.retriever(StandIns).prepare()
+    builder.retriever(Substitutes).prepare()
 }
 
 // The builder with a copy of the document that has a number.

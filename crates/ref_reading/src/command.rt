@@ -245,7 +245,7 @@ fn action_of(kind: Kind) -> ArgAction {
     }
 }
 
-fn told<'c>(name: &'c str, value: &'c str, kind: Kind, help: &'c str) -> Row<'c> {
+fn named<'c>(name: &'c str, value: &'c str, kind: Kind, help: &'c str) -> Row<'c> {
     Row {
         name,
         value,
@@ -256,92 +256,92 @@ fn told<'c>(name: &'c str, value: &'c str, kind: Kind, help: &'c str) -> Row<'c>
 
 fn row_of<'c>(word: Word) -> Row<'c> {
     match word {
-        Word::Directory => told(
+        Word::Directory => named(
             "directory",
             "FOLDER",
             Kind::Value,
             "Run as if started in this folder",
         ),
-        Word::Paths => told(
+        Word::Paths => named(
             "paths",
             "PATH",
             Kind::Places,
             "A file, or a folder: all files below it that end in .json, without hidden folders and links",
         ),
-        Word::ReferringFile => told(
+        Word::ReferringFile => named(
             "file",
             "FILE",
             Kind::Place,
             "The file that has the reference",
         ),
-        Word::RootFile => told(
+        Word::RootFile => named(
             "file",
             "FILE",
             Kind::Place,
             "The schema file that becomes the root of the bundle",
         ),
-        Word::Reference => told(
+        Word::Reference => named(
             "reference",
             "REF",
             Kind::Place,
             "The reference, as the value of a $ref",
         ),
-        Word::From => told(
+        Word::From => named(
             "from",
             "POINTER",
             Kind::Value,
             "The place in the file that it is followed from, as a JSON pointer",
         ),
-        Word::With => told(
+        Word::With => named(
             "with",
             "PATH",
             Kind::Values,
             "Another file or folder that references may lead into; may be repeated",
         ),
-        Word::Exclude => told(
+        Word::Exclude => named(
             "exclude",
             "PATH",
             Kind::Values,
             "Leave out this file, or what is below this folder; may be repeated",
         ),
-        Word::Verbose => told(
+        Word::Verbose => named(
             "verbose",
             "",
             Kind::Flag,
             "Also list references that were not checked",
         ),
-        Word::Format => told("format", "FORMAT", Kind::Value, "How findings are printed"),
-        Word::Language => told(
+        Word::Format => named("format", "FORMAT", Kind::Value, "How findings are printed"),
+        Word::Language => named(
             "format",
             "FORMAT",
             Kind::Value,
             "The language of the drawing",
         ),
-        Word::Output => told(
+        Word::Output => named(
             "output",
             "OUT",
             Kind::Value,
             "The file to write, in place of standard output; it stays as it was where there is no bundle",
         ),
-        Word::Minify => told(
+        Word::Minify => named(
             "minify",
             "",
             Kind::Flag,
             "Write the bundle on one line, with the members of objects in byte order of their keys",
         ),
-        Word::Base => told(
+        Word::Base => named(
             "base",
             "URI",
             Kind::Value,
             "The URI of the folder given, below which files have theirs by their paths; without it they have file: URIs",
         ),
-        Word::Draft => told(
+        Word::Draft => named(
             "draft",
             "DRAFT",
             Kind::Value,
             "The draft of files that name none",
         ),
-        Word::Map => told(
+        Word::Map => named(
             "map",
             "PREFIX=FOLDER",
             Kind::Values,

@@ -6,7 +6,7 @@ use Rattle.ref_report.specs.declared.status.Status.{Status}
 use Rattle.ref_report.specs.Report.{Report, IsReport}
 
 -- The source gave some bytes, the sink took the text of the report on these, and the status is the report's.
--- Where the source tells which bytes are left, those that it gave were before them.
+-- Where the source says which bytes are left, those that it gave were before them.
 abbrev pub Reports : Option (List ℕ) → Option (List ℕ) → Option (List ℕ) → Option (List ℕ) → Status
     → Type 0
 Reports left left' taken taken' status =

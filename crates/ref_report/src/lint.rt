@@ -19,7 +19,7 @@ pub fn push_dangling(
         ≡ string_bytes text.old ++ spec.dangling_lines registry.now) }
 {
     errors_say_faults();
-    // It refuses only where memory is refused.
+    // Out of memory is its one error.
     let Ok(entries) = dangling(alloc, registry) else {
         return Err(AllocError);
     };

@@ -52,7 +52,7 @@ each_known layer d before [] own children within known x there = known x (subst 
 each_known layer d before (y ∷ rest) own children within known x there =
     let longer = append_assoc before (y ∷ []) rest in
     let here : HasKnownBase layer y =
-    child_known layer d children.0.parent y children.0.parent.base refl own (known children.0.parent children.0.stands_before) children.0.child
+    child_known layer d children.0.parent y children.0.parent.base refl own (known children.0.parent children.0.comes_before) children.0.child
     (within y (Contains-append_right before (y ∷ rest) y (0, omega arith, refl))) in
     each_known layer d (before ++ y ∷ []) rest own children.1 (λ z at. within z (subst (λ ps. Contains ps z) longer at))
     (λ z at. ⊎_elim (λ earlier. known z earlier) (λ last. ⊎_elim (λ same. subst (HasKnownBase layer) same here) (λ none. absurd (none_in_nothing z none)) (first_or_later y [] z last)) (Contains-append_cases before (y ∷ []) z at))
@@ -81,12 +81,12 @@ name_known layer n there =
     let (d, own, of) = in_one_of names_in layer n there in
     ⊎_elim
     (λ of_root. subst (Bears layer) (under_that d.uri (root d) n of_root) (root d, in_joined resources_in layer d (d.uri, root d) own (0, omega arith, refl)))
-    (λ of_place. let (p, standing, at) = in_one_of named_at (places d) n of_place in named_known layer p n p.base refl (base_known layer d p own standing) at)
+    (λ of_place. let (p, are_at_paths, at) = in_one_of named_at (places d) n of_place in named_known layer p n p.base refl (base_known layer d p own are_at_paths) at)
     (Contains-append_cases (named_under d.uri (root d)) (flat_map named_at (places d)) n of)
 
-last_stands : {X : Type 0} (test : X → Bool) (xs : List X) (o : Option X) (a : X) → last_or o (filter test xs) ≡ Some a → (o ≡ Some a) ⊎ Contains xs a
-last_stands test [] o a is = inl is
-last_stands test (x ∷ xs) o a is = by_test (test x) (last_stands test xs (Some x) a) (last_stands test xs o a) is
+last_is_there : {X : Type 0} (test : X → Bool) (xs : List X) (o : Option X) (a : X) → last_or o (filter test xs) ≡ Some a → (o ≡ Some a) ⊎ Contains xs a
+last_is_there test [] o a is = inl is
+last_is_there test (x ∷ xs) o a is = by_test (test x) (last_is_there test xs (Some x) a) (last_is_there test xs o a) is
   where
     later : Contains xs a → (o ≡ Some a) ⊎ Contains (x ∷ xs) a
     later at = inr (Contains-append_right (x ∷ []) xs a at)
@@ -105,7 +105,7 @@ last_named_bears layer uri name n is =
     let test = λ (e : Named). bytes_eq e.uri uri && bytes_eq e.name name in
     let passes = last_passes test (names layer) None (λ x no. cc) n is in
     let same = (bytes_eq-Decides n.uri uri).0 (first_true (bytes_eq n.uri uri) (bytes_eq n.name name) passes) in
-    ⊎_elim (λ no. cc) (λ there. subst (Bears layer) same (name_known layer n there)) (last_stands test (names layer) None n is)
+    ⊎_elim (λ no. cc) (λ there. subst (Bears layer) same (name_known layer n there)) (last_is_there test (names layer) None n is)
 
 there_or : (layer : Layer) (world : World) (uri : List ℕ) (found : Option (List ℕ × Place)) → last_under uri (resources layer) ≡ found → Bears layer uri → is_some (option_map_or (λ e. Some e.1) found (meant_place world uri)) ≡ true
 there_or layer world uri (Some e) is known = refl

@@ -31,12 +31,12 @@ scope_refused self name n e of says = subst (λ a. IsFaultOf a e) (sym (asked se
 -- the place that was found outermost
 pub scope_leads : (self : Resolver) (name : List ℕ) (n : Named) (outer : List ℕ) (l : Located) → IsDynamicOf name n → IsOutermost (world_of self) (resolver_of self) n name outer l
     → named_found (world_of self) (resolver_of self) n n.kind ≡ under_uri (resolver_of self) outer l.entry.now.draft (view l.value.now)
-scope_leads self name n outer l of (m, leads, stands, named, last) = asked self name n of ∙ leads ∙ found_under (resolver_of self) outer m l stands
+scope_leads self name n outer l of (m, leads, is_at_path, named, last) = asked self name n of ∙ leads ∙ found_under (resolver_of self) outer m l is_at_path
 
 -- under the URI of that place the name means the anchor there
 pub scope_means : (self : Resolver) (name : List ℕ) (n : Named) (outer : List ℕ) (l : Located) (text : List ℕ) → anchor (world_of self) (resolver_of self).base name ≡ Ok n → text ≡ outer → IsOutermost (world_of self) (resolver_of self) n name outer l
     → (m : Named) × IsLocated l m.place × (anchor (world_of self) text name ≡ Ok m)
-scope_means self name n outer l text means is (m, leads, stands, named, last) = (m, stands, ap (λ u. anchor (world_of self) u name) is ∙ named means)
+scope_means self name n outer l text means is (m, leads, is_at_path, named, last) = (m, is_at_path, ap (λ u. anchor (world_of self) u name) is ∙ named means)
 
 -- what a name leads to from a resolver that moved to a URI
 pub named_moved : (self there : Resolver) (uri : List ℕ) (n : Named) → world_of there ≡ world_of self → resolver_of there ≡ moved_resolver (resolver_of self) uri

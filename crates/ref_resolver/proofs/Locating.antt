@@ -117,8 +117,8 @@ unfolding anchor
 anchor_nowhere world uri name none nothing =
     ap (λ o. ok_or o (not_named name)) (far_name_step (named_entry world uri name) (named_by_identifier world uri name) none ∙ nothing)
 
-pub anchor_behind : {L : Type 0} (At : L → Named → Type 0) (world : World) (uri name : List ℕ) (o : Option L) → named_entry world uri name ≡ None
+pub anchor_after : {L : Type 0} (At : L → Named → Type 0) (world : World) (uri name : List ℕ) (o : Option L) → named_entry world uri name ≡ None
     → MatchOption o (named_by_identifier world uri name ≡ None) (λ l. (n : Named) × (named_by_identifier world uri name ≡ Some n) × At l n)
     → MatchOption o (anchor world uri name ≡ Err (not_named name)) (λ l. (n : Named) × (result_ok (anchor world uri name) ≡ Some n) × At l n)
-anchor_behind At world uri name None none nothing = anchor_nowhere world uri name none nothing
-anchor_behind At world uri name (Some l) none meant = anchor_elsewhere (At l) world uri name none meant
+anchor_after At world uri name None none nothing = anchor_nowhere world uri name none nothing
+anchor_after At world uri name (Some l) none meant = anchor_elsewhere (At l) world uri name none meant

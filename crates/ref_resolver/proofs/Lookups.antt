@@ -9,7 +9,7 @@ use Rattle.ref_definitions.specs.Fault.{Fault, as_invalid_uri, not_retrieved}
 use Rattle.ref_definitions.specs.Places.{Place}
 use Rattle.ref_definitions.specs.Resources.{meant_place}
 use Rattle.ref_definitions.specs.Lookup.{Resolver, Found, lookup, at_fragment, moved_resolver}
-use Rattle.ref_definitions.specs.Recursive.{is_marked, answers_marked, looked_up, outermost_marked, unless_fault_behind, lookup_recursive}
+use Rattle.ref_definitions.specs.Recursive.{is_marked, answers_marked, looked_up, outermost_marked, unless_fault_after, lookup_recursive}
 use Rattle.ref_error.specs.declared.error.Error.{Error}
 use Rattle.ref_error.specs.Errors.{IsFaultOf}
 use Rattle.ref_resolver.proofs.Faults.{fault_ends, goes_on}
@@ -68,8 +68,8 @@ marked_step : (first a : Result Found Fault) (more : List (Result Found Fault)) 
 marked_step first a more is =
     let n = prefix_len answers_marked more in
     rw is
-    (ap (λ k. unless_fault_behind (drop k (a ∷ more)) (unwrap_or (last_or None (take k (a ∷ more))) first)) (one_more n)
-    ∙ ap (unless_fault_behind (drop n more)) (last_from a first (take n more)))
+    (ap (λ k. unless_fault_after (drop k (a ∷ more)) (unwrap_or (last_or None (take k (a ∷ more))) first)) (one_more n)
+    ∙ ap (unless_fault_after (drop n more)) (last_from a first (take n more)))
 
 pub marked_turn : (first f : Found) (answer : Result Found Fault) (more : List (Result Found Fault)) → answer ≡ Ok f → is_marked f.value ≡ true → outermost_marked (Ok first) (answer ∷ more) ≡ outermost_marked (Ok f) more
 marked_turn first f answer more is marked = ap (λ a. outermost_marked (Ok first) (a ∷ more)) is ∙ marked_step (Ok first) (Ok f) more marked
@@ -81,7 +81,7 @@ while_step test x d xs is = let n = prefix_len test xs in rw is (ap (λ k. unwra
 pub while_ended : {X : Type 0} (test : X → Bool) (x d : X) (xs : List X) → test x ≡ false → unwrap_or (last_or None (take_while test (x ∷ xs))) d ≡ d
 while_ended test x d xs is = rw is refl
 
-unmarked_step : (first a : Result Found Fault) (more : List (Result Found Fault)) → answers_marked a ≡ false → outermost_marked first (a ∷ more) ≡ unless_fault_behind (a ∷ more) first
+unmarked_step : (first a : Result Found Fault) (more : List (Result Found Fault)) → answers_marked a ≡ false → outermost_marked first (a ∷ more) ≡ unless_fault_after (a ∷ more) first
 unmarked_step first a more is = rw is refl
 
 -- one that is not ends it, and so does a fault

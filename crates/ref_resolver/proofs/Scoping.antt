@@ -94,8 +94,8 @@ module _ (w : World) (r : Resolver) (name : List ℕ) (e : List ℕ × Named) (u
   last_turn_taken n is = ap (λ xs. outermost e (flat_map entry_of (in_scope w name xs))) steps ∙ last_taken e (uri, n) means (in_scope w name more) is
 
 -- a place is that of the entry that was found last, which stands for the first one where these URIs are to come
-abbrev pub StandsFor : World → Resolver → List ℕ → Named → List ℕ → List (List ℕ) → Located → Type 0
-StandsFor w r name n uri left l =
+abbrev pub IsFoundFor : World → Resolver → List ℕ → Named → List ℕ → List (List ℕ) → Located → Type 0
+IsFoundFor w r name n uri left l =
     (m : Named) × (by_scope r n (in_scope w name r.scope) ≡ from_here r (uri, m) (in_scope w name left))
     × IsLocated l m.place
     × (anchor w r.base name ≡ Ok n → anchor w uri name ≡ Ok m)
@@ -125,13 +125,13 @@ dynamic_means uri meaning n is = by_answer meaning n is
     by_answer (Err fault) n is = absurd (no_list (uri, n) [] (no_fault (fault_of (uri, Err fault)) [] ((uri, n) ∷ []) is).1)
 
 -- a URI without a dynamic entry keeps the place
-pub place_stays : (w : World) (r : Resolver) (name : List ℕ) (n : Named) (uri outer : List ℕ) (left more : List (List ℕ)) (l : Located) → left ≡ outer ∷ more → dynamic_under w outer name ≡ Ok [] → StandsFor w r name n uri left l
-    → StandsFor w r name n uri more l
+pub place_stays : (w : World) (r : Resolver) (name : List ℕ) (n : Named) (uri outer : List ℕ) (left more : List (List ℕ)) (l : Located) → left ≡ outer ∷ more → dynamic_under w outer name ≡ Ok [] → IsFoundFor w r name n uri left l
+    → IsFoundFor w r name n uri more l
 place_stays w r name n uri outer left more l steps none (m, same, at, meant, last) =
     (m, same ∙ turn_passed w r name (uri, m) outer left more steps none, at, meant, last ∙ last_turn_passed w r name (uri, m) outer left more steps none)
 
 -- one with a dynamic entry has the place of that entry
 pub place_taken : (w : World) (r : Resolver) (name : List ℕ) (n : Named) (uri outer : List ℕ) (left more : List (List ℕ)) (l found : Located) → left ≡ outer ∷ more
-    → (d : Named) × (dynamic_under w outer name ≡ Ok ((outer, d) ∷ [])) × IsLocated found d.place → StandsFor w r name n uri left l → StandsFor w r name n outer more found
+    → (d : Named) × (dynamic_under w outer name ≡ Ok ((outer, d) ∷ [])) × IsLocated found d.place → IsFoundFor w r name n uri left l → IsFoundFor w r name n outer more found
 place_taken w r name n uri outer left more l found steps (d, dynamic, there) (m, same, at, meant, last) =
     (d, same ∙ turn_taken w r name (uri, m) outer left more steps d dynamic, there, λ first. dynamic_means outer (anchor w outer name) d dynamic, last ∙ last_turn_taken w r name (uri, m) outer left more steps d dynamic)

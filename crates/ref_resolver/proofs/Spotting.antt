@@ -117,9 +117,9 @@ nowhere_named number (layer ∷ world) uri name none =
 pub anchor_spot_near : (world : World) (uri name : List ℕ) (at : ℕ × Spot) → name_spot world uri name ≡ Some at → anchor_spot world uri name ≡ Some at
 anchor_spot_near world uri name at is = ap (λ o. option_or o (option_and_then (λ own. name_spot world own name) (option_and_then own_uri (meant_place world uri)))) is
 
-pub anchor_spot_behind : (world : World) (uri name base : List ℕ) (at : ℕ × Spot) → named_entry world uri name ≡ None → option_and_then own_uri (meant_place world uri) ≡ Some base → name_spot world base name ≡ Some at
+pub anchor_spot_after : (world : World) (uri name base : List ℕ) (at : ℕ × Spot) → named_entry world uri name ≡ None → option_and_then own_uri (meant_place world uri) ≡ Some base → name_spot world base name ≡ Some at
     → anchor_spot world uri name ≡ Some at
-anchor_spot_behind world uri name base at none own is =
+anchor_spot_after world uri name base at none own is =
     ap (λ o. option_or o (option_and_then (λ own. name_spot world own name) (option_and_then own_uri (meant_place world uri)))) (nowhere_named 0 world uri name none)
     ∙ ap (option_and_then (λ own. name_spot world own name)) own ∙ is
 

@@ -107,7 +107,7 @@ abbrev pub location_view : Location → ℕ × Spot
 location_view l = (l.layer, record { document = l.document; path = map part_of l.path.items })
 
 -- The value is at the path in the document with this number, of the layer with this number.
-pub record StandsAt (w : World) (l : Location) (value : Data) : Type 0 where
+pub record IsValueAt (w : World) (l : Location) (value : Data) : Type 0 where
   pub layer : Layer
   pub in_world : slice_get w l.layer ≡ Some layer
   pub document : Document
@@ -116,7 +116,7 @@ pub record StandsAt (w : World) (l : Location) (value : Data) : Type 0 where
 
 -- a look-up leads somewhere, and the value that it returns is there
 abbrev pub IsWhere : World → Result Found Fault → Location → Type 0
-IsWhere w answer l = (found : Found) × (answer ≡ Ok found) × StandsAt w l found.value
+IsWhere w answer l = (found : Found) × (answer ≡ Ok found) × IsValueAt w l found.value
 
 -- a call says where the value is that a look-up returns, or the fault of the look-up
 abbrev pub GivesWhere : World → Result Found Fault → Result Location Error → Type 0

@@ -20,7 +20,7 @@ ghost use Rattle.ref_error.specs.Errors.{IsFaultOf, Gives};
 ghost use Rattle.ref_index.specs.Spots.{spot_of};
 ghost use Rattle.ref_resolver.specs.Layered.{world_in};
 ghost use Rattle.ref_resolver.specs.inner.Located.{IsLocated, IsLocatedAt, IsNamedAt};
-ghost use Rattle.ref_resolver.specs.Locations.{StandsAt, IsWhere, GivesWhere, anchor_spot, naming_uri, parts_along, with_parts, lookup_location, recursive_reference, location_view};
+ghost use Rattle.ref_resolver.specs.Locations.{IsValueAt, IsWhere, GivesWhere, anchor_spot, naming_uri, parts_along, with_parts, lookup_location, recursive_reference, location_view};
 ghost use Rattle.ref_resolver.specs.inner.Leading.{LeadsOn, at_pointer};
 ghost use Rattle.ref_resolver.specs.inner.Names.{is_name};
 ghost use Rattle.ref_resolver.specs.Resolving.{resolver_of, world_of};
@@ -82,7 +82,7 @@ fn borrowed<'p>(
 // Where a place is.
 fn location_of<'r>(alloc: Global, found: Numbered<'r>) -> Result<Location<'r>, AllocError>
     ensures there { (w : World) (p : Place) → IsLocatedAt w found.entry p
-        → IfOk result (λ l. StandsAt w l p.value) }
+        → IfOk result (λ l. IsValueAt w l p.value) }
     ensures spot { IfOk result
         (λ l. location_view l ≡ (found.entry.layer, spot_of found.entry.place.entry.now)) }
 {

@@ -38,7 +38,7 @@ pub struct Walk<'r, 'w> {
 
 // A fault with the text of the pointer. Faults stay out of what a step takes.
 #[inline(never)]
-fn to_nowhere(alloc: Global, pointer: &str) -> Error
+fn no_such_value(alloc: Global, pointer: &str) -> Error
     ensures { SaysOrMemory (PointerToNowhere pointer.now) result }
 {
     match String::from_str(alloc, pointer) {
@@ -77,7 +77,7 @@ fn found<'r>(alloc: Global, pointer: &str, value: Option<&'r Value>) -> Result<&
 {
     match value {
         Some(value) => Ok(value),
-        None => Err(to_nowhere(alloc, pointer)),
+        None => Err(no_such_value(alloc, pointer)),
     }
 }
 

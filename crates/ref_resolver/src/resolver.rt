@@ -7,7 +7,7 @@ ghost use Rattle.ref_uri.specs.Targets.{uri_against, target, uri_part, fragment_
 ghost use Rattle.ref_definitions.specs.Fault.{as_invalid_uri};
 ghost use Rattle.ref_definitions.specs.Resources.{meant_place};
 ghost use Rattle.ref_resolver.specs.Layered.{world_in};
-ghost use Rattle.ref_resolver.specs.inner.Located.{IsMeant, IsKnown, known_once};
+ghost use Rattle.ref_resolver.specs.inner.Located.{IsMeant, IsKnown, KnowsPlace, knows_once};
 
 use crate::fragment::{is_name, meaning, not_named, not_retrieved, outermost, under_uri};
 use crate::layers::Layers;
@@ -31,7 +31,7 @@ pub struct Resolver<'r> {
     // The place that the base means, where that is known without a look-up.
     place: Option<Located<'r>>,
     pub(crate) scope: List<Uri>,
-    ghost known: { IfSome place (IsKnown (meant_place (world_in layers) base.value)) } by { known_once place (meant_place (world_in layers) base.value) },
+    ghost known: { KnowsPlace layers base place } by { knows_once layers base place },
 }
 
 // What a reference points into: the URI, the place that it means, where that is known without a look-up, and the fragment.

@@ -9,7 +9,8 @@ use Rattle.ref_index.specs.Spots.{Spot}
 use Rattle.ref_json.specs.declared.stop.Stop.{Stop}
 use Rattle.ref_calls.specs.Objects.{with_all, object_of}
 use Rattle.ref_serve.specs.declared.place.Found.{Found}
-use Rattle.ref_serve.specs.Results.{Gives, Then, Asked, IsFound, found_members, resolver_members}
+use Rattle.ref_serve.specs.Results.{Then, Asked, IsFound, found_members, resolver_members}
+use Rattle.ref_serve.specs.inner.Giving.{Gives}
 use Rattle.ref_serve.specs.inner.Seen.{IsFoundBy}
 
 with_all-append : (xs ys : List (List ℕ × Data)) (ms : Members) → with_all (xs ++ ys) ms ≡ with_all ys (with_all xs ms)
@@ -24,7 +25,7 @@ in_two_steps xs ys first second third none one two =
 
 pub found_as : (asked : Asked) (at : Option (ℕ × Spot)) (answer : Result WorldFound Fault) (f : Found) (r : Resolver) (d : Data) → IsFoundBy asked.world at answer f r
     → d ≡ object_of (found_members asked f.location (view f.value.now) f.draft ++ resolver_members r) → IsFound asked at answer (Ok d)
-found_as asked at answer f r d (is, stands, there) whole = subst (λ a. IsFound asked at a (Ok d)) (sym is) (f.location, there, stands, whole)
+found_as asked at answer f r d (is, is_at_path, there) whole = subst (λ a. IsFound asked at a (Ok d)) (sym is) (f.location, there, is_at_path, whole)
 
 pub gives_then : {A : Type 0} (read : Result A Data) (x : A) (may : A → Result Data Data → Type 0) (result : Result Value (Stop Value)) → read ≡ Ok x → Gives (may x) result → Gives (Then read may) result
 gives_then read x may result is given = subst (λ r. Gives (Then r may) result) (sym is) given

@@ -6,7 +6,8 @@ use Rattle.ref_definitions.specs.Lookup.{Resolver}
 use Rattle.ref_calls.specs.Objects.{list_of}
 use Rattle.ref_calls.specs.Calls.{each_item}
 use Rattle.ref_calls.proofs.Further.{in_front}
-use Rattle.ref_serve.specs.Results.{Asked, Then, IsListed, IsListedAs, AreListed, IsList, reference_in}
+use Rattle.ref_serve.specs.Results.{Asked, Then, IsListed, AreListed, IsList, reference_in}
+use Rattle.ref_serve.specs.inner.Giving.{IsListedAs}
 
 -- what is listed so far, before the references that are left to read
 abbrev pub IsSoFar : Asked → Resolver → List Data → Result (List (List ℕ)) Data → Result (List (List ℕ)) Data → Type 0

@@ -13,7 +13,7 @@ use Rattle.ref_serve.specs.State.{Registries}
 use Rattle.ref_json.specs.Text.{tree_of}
 use Rattle.ref_calls.specs.Calls.{call_of}
 use Rattle.ref_calls.specs.Objects.{answer_of, IsLineOf}
-use Rattle.ref_serve.specs.Results.{Gives}
+use Rattle.ref_serve.specs.inner.Giving.{Gives}
 use Rattle.ref_serve.specs.Answering.{IsResult, IsReply, IsReplyTo, IsAnswerTo, IsAnswer}
 use Rattle.ref_serve.specs.inner.Replies.{Replies, IsUnchanged, registries_after}
 

@@ -17,7 +17,7 @@ use Rattle.ref_error.specs.declared.error.Error.{Error}
 use Rattle.ref_error.specs.declared.error.Error.TheVariants as error
 use Rattle.ref_error.specs.Errors.{IsFaultOf, SaysFault, is_memory}
 use Rattle.ref_index.specs.Spots.{Spot}
-use Rattle.ref_resolver.specs.Locations.{StandsAt, location_view}
+use Rattle.ref_resolver.specs.Locations.{IsValueAt, location_view}
 use Rattle.ref_resolver.proofs.Faults.{fault_ends}
 use Rattle.referencing.specs.declared.steps.Step.{Step}
 use Rattle.referencing.specs.Following.{step_of, SaysStepFault}
@@ -27,7 +27,8 @@ use Rattle.ref_calls.specs.Objects.{object_of}
 use Rattle.ref_calls.specs.Calls.{each_item}
 use Rattle.ref_calls.proofs.Further.{in_front, in_front_push, first_read}
 use Rattle.ref_serve.specs.declared.place.Found.{Found}
-use Rattle.ref_serve.specs.Results.{Asked, Gives, found_members, resolver_members}
+use Rattle.ref_serve.specs.Results.{Asked, found_members, resolver_members}
+use Rattle.ref_serve.specs.inner.Giving.{Gives}
 use Rattle.ref_serve.specs.Following.{step_in, step_members, step_place, place_after, IsFollowed, IsFollowedTo}
 use Rattle.ref_serve.specs.inner.Seen.{IsFoundBy}
 use Rattle.ref_serve.specs.inner.Steps.{IsLookedUpTo, IsStepError}
@@ -90,7 +91,7 @@ step_error_is whole n (error.Memory memory) value said never gives = absurd (nev
 
 pub found_to : (w : World) (at : Option (ℕ × Spot)) (answer : Result WorldFound Fault) (x : Found) (r : Resolver) (f : world.Followed) → IsFoundBy w at answer x r
     → f ≡ record { last = Some (view x.value.now, x.draft); resolver = r } → IsLookedUpTo answer f
-found_to w at answer x r f (is, stands, there) same = (record { value = view x.value.now; draft = x.draft; resolver = r }, is, same)
+found_to w at answer x r f (is, is_at_path, there) same = (record { value = view x.value.now; draft = x.draft; resolver = r }, is, same)
 
 pub result_stopped : (asked : Asked) (at : Option (ℕ × Spot)) (answer : Result world.Followed (ℕ × Fault)) (stop : Stop Value) → IsStepError answer stop → Gives (IsFollowed asked at answer) (Err stop)
 result_stopped asked at answer Memory is = tt
@@ -100,12 +101,12 @@ pub result_found : (asked : Asked) (at here : Option (ℕ × Spot)) (answer : Re
     → IsFollowed asked at answer (Ok d)
 result_found asked at here answer f d there is given = subst (λ p. IsFollowed asked p answer (Ok d)) (sym there) (subst (λ a. IsFollowed asked here a (Ok d)) (sym is) given)
 
-pub object_at : (asked : Asked) (last : Option Found) (x : Found) (r : Resolver) (result : Result Value AllocError) → last ≡ Some x → IfSome last (λ y. StandsAt asked.world y.location (view y.value.now))
+pub object_at : (asked : Asked) (last : Option Found) (x : Found) (r : Resolver) (result : Result Value AllocError) → last ≡ Some x → IfSome last (λ y. IsValueAt asked.world y.location (view y.value.now))
     → IfOk result (λ d. view d ≡ object_of (found_members asked x.location (view x.value.now) x.draft ++ resolver_members r))
     → IfOk result (λ d. IsFollowedTo asked (option_map (λ y. location_view y.location) last) (option_map (λ y. (view y.value.now, y.draft)) last) r (view d))
 object_at asked last x r (Ok d) is placed given =
     subst (λ o. IsFollowedTo asked (option_map (λ y. location_view y.location) o) (option_map (λ y. (view y.value.now, y.draft)) o) r (view d)) (sym is)
-    (x.location, refl, subst (λ o. IfSome o (λ y. StandsAt asked.world y.location (view y.value.now))) is placed, given)
+    (x.location, refl, subst (λ o. IfSome o (λ y. IsValueAt asked.world y.location (view y.value.now))) is placed, given)
 object_at asked last x r (Err e) is placed given = tt
 
 pub object_without : (asked : Asked) (last : Option Found) (r : Resolver) (result : Result Value AllocError) → last ≡ None → IfOk result (λ d. view d ≡ object_of (resolver_members r))

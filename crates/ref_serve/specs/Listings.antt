@@ -9,7 +9,7 @@ use Rattle.ref_definitions.specs.Results.{◌>>=◌}
 use Rattle.ref_definitions.specs.Listing.{Listed, local_places}
 use Rattle.ref_vocabularies.specs.Vocabularies.{Known, Core, Applicator, Unevaluated, Validation, Metadata, Format, FormatAnnotation, Content, FormatAssertion, Standard, VocabularySet, all_known, contains, find_vocabularies}
 use Rattle.ref_lint.specs.Dangling.{DanglingReference, dangling}
-use Rattle.ref_bundle.specs.Embedding.{Obstacle, NotAnObject, IdentifierBesideRef, NotAnIdentifier, NotKept, UntoldDraft, ResolvedAgain}
+use Rattle.ref_bundle.specs.Embedding.{Obstacle, NotAnObject, IdentifierBesideRef, NotAnIdentifier, NotKept, UnnamedDraft, ResolvedAgain}
 use Rattle.ref_bundle.specs.Bundle.{Bundle, BundleRefusal, Problem, NoDocument, NotEmbedded, NoMap, KeyTaken, SharedUri, ReplacedUri, ShadowedUri, AddedMember, bundle_at}
 use Rattle.ref_bundle.specs.Saying.{refusal_text}
 use Rattle.ref_draft.specs.Names.{draft_name}
@@ -106,7 +106,7 @@ obstacle_name NotAnObject = codes "NotAnObject"
 obstacle_name IdentifierBesideRef = codes "IdentifierBesideRef"
 obstacle_name NotAnIdentifier = codes "NotAnIdentifier"
 obstacle_name (NotKept uri) = codes "NotKept"
-obstacle_name (UntoldDraft draft) = codes "UntoldDraft"
+obstacle_name (UnnamedDraft draft) = codes "UnnamedDraft"
 obstacle_name ResolvedAgain = codes "ResolvedAgain"
 
 abbrev pub problem_name : Problem → List ℕ

@@ -96,7 +96,7 @@ opened_members number world =
     ∷ (codes "documents", texts (map (λ d. d.uri) (local_documents world))) ∷ []
 
 -- What a registry is opened above: layers with the numbers of their registries; the registries that are open before it gets the
--- next number; and the members of the result that tell of one that is opened with it.
+-- next number; and the members of the result that describe one that is opened with it.
 pub record Below : Type 0 where
   pub layers : OpenRegistry
   pub registries : Registries

@@ -2,8 +2,6 @@
 use Rattle.std.specs.Prelude.{◌≡◌, ℕ, Bool, List, [], ◌∷◌, ◌++◌, map, codes, Option, None, Some, Result, Ok, Err, if◌then◌else◌}
 use Rattle.serde_json.specs.Data.{Data, string, Items}
 use Rattle.serde_json.specs.Find.{as_str, as_array}
-use Rattle.serde_json.specs.View.{view}
-use Rattle.serde_json.specs.declared.value.Value.{Value}
 use Rattle.ref_parts.specs.Pointer.{pointer_text}
 use Rattle.ref_paths.specs.Segment.{part_of}
 use Rattle.ref_draft.specs.declared.draft.Draft.{Draft}
@@ -15,21 +13,13 @@ use Rattle.ref_definitions.specs.Lookup.{Resolver, Found, lookup, in_subresource
 use Rattle.ref_definitions.specs.Recursive.{lookup_recursive}
 use Rattle.ref_resolver.specs.declared.location.Location.{Location}
 use Rattle.ref_index.specs.Spots.{Spot}
-use Rattle.ref_resolver.specs.Locations.{StandsAt, lookup_location, recursive_reference, location_view}
+use Rattle.ref_resolver.specs.Locations.{IsValueAt, lookup_location, recursive_reference, location_view}
 use Rattle.ref_draft.specs.Names.{draft_name}
 use Rattle.ref_calls.specs.declared.fault.Wrong.TheVariants.{InvalidField}
-use Rattle.ref_json.specs.declared.stop.Stop.{Stop}
-use Rattle.ref_json.specs.declared.stop.Stop.TheVariants.{Memory, Because}
 use Rattle.ref_calls.specs.Objects.{object_of, list_of, texts, whole}
 use Rattle.ref_calls.specs.Errors.{field_error, fault_error, as_error, at_index}
 use Rattle.ref_calls.specs.Calls.{required_member, text_in, each_item, is_set, base_of, scope_of, draft_of, schema_of}
 use Rattle.ref_serve.specs.State.{OpenRegistry, Registries, registry_under, layer_number}
-
--- a call gives what it may, unless memory ran out: its result or its error object
-abbrev pub Gives : (Result Data Data → Type 0) → Result Value (Stop Value) → Type 0
-Gives may (Ok value) = may (Ok (view value))
-Gives may (Err Memory) = Unit {0}
-Gives may (Err (Because value)) = may (Err (view value))
 
 -- what may be given once something is read, or the error of what can't be read
 abbrev pub Then : {A : Type 0} → Result A Data → (A → Result Data Data → Type 0) → Result Data Data
@@ -85,7 +75,7 @@ found_members asked l value draft =
 -- the object of what is found: this is its place, and the value is there
 abbrev pub IsFoundAt : Asked → Option (ℕ × Spot) → Found → Data → Type 0
 IsFoundAt asked at found d =
-    (l : Location) × (at ≡ Some (location_view l)) × StandsAt asked.world l found.value
+    (l : Location) × (at ≡ Some (location_view l)) × IsValueAt asked.world l found.value
     × (d
     ≡ object_of
     (found_members asked l found.value found.draft ++ resolver_members found.resolver))
@@ -116,10 +106,6 @@ abbrev pub IsListed : Asked → Resolver → List ℕ → Data → Type 0
 IsListed asked r reference d =
     (outcome : Result Data Data) × IsLookedUp asked r reference outcome
     × (d ≡ listed_outcome outcome)
-
-abbrev pub IsListedAs : Asked → Resolver → List ℕ → Result Data Data → Type 0
-IsListedAs asked r reference (Ok d) = IsListed asked r reference d
-IsListedAs asked r reference (Err e) = ⊥
 
 -- the text that an item is
 abbrev pub reference_in : ℕ → Data → Result (List ℕ) Data

@@ -3,3 +3,4 @@ pub mod Seen
 pub mod Replies
 pub mod Openings
 pub mod Steps
+pub mod Giving

@@ -5,7 +5,7 @@ ghost use Rattle.ref_calls.specs.Objects.{answer_of, IsLineOf};
 ghost use Rattle.ref_calls.specs.Errors.{not_json as error_of};
 ghost use Rattle.ref_calls.specs.Calls.{call_of};
 ghost use Rattle.ref_serve.specs.Answering as spec;
-ghost use Rattle.ref_serve.specs.Results.{Gives};
+ghost use Rattle.ref_serve.specs.inner.Giving.{Gives};
 ghost use Rattle.ref_serve.specs.inner.Replies.{registries_after, Replies, IsUnchanged};
 
 use crate::bundling::bundle_document;

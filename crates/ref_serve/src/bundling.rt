@@ -26,7 +26,7 @@ fn obstacle_name(obstacle: &Obstacle) -> &'static str
         Obstacle::IdentifierBesideRef => "IdentifierBesideRef",
         Obstacle::NotAnIdentifier => "NotAnIdentifier",
         Obstacle::NotKept(_) => "NotKept",
-        Obstacle::UntoldDraft(_) => "UntoldDraft",
+        Obstacle::UnnamedDraft(_) => "UnnamedDraft",
         Obstacle::ResolvedAgain => "ResolvedAgain",
     }
 }

@@ -1,30 +1,32 @@
 //! `follow`.
-ghost use Rattle.std.specs.Prelude.{◌≡◌, ◌++◌, true, option_map, map, None, Ok, IfOk, IfErr, IsErr};
+ghost use Rattle.std.specs.Prelude.{◌≡◌, ℕ, ◌++◌, true, option_map, map, None, Ok, Result, IfOk, IfErr, IsErr};
 ghost use Rattle.serde_json.specs.View.{view, items_view};
 ghost use Rattle.ref_definitions.specs.Fault.{Fault};
+ghost use Rattle.ref_definitions.specs.Follow as world;
 ghost use Rattle.ref_definitions.specs.Follow.{after_step, followed_from};
 ghost use Rattle.ref_error.specs.Errors.{Gives as GivesMeaning, IsFaultOf, SaysFault, is_memory};
 ghost use Rattle.ref_resolver.specs.Resolving.{resolver_of as resolver_view, world_of};
-ghost use Rattle.referencing.specs.Following.{step_of};
+ghost use Rattle.referencing.specs.declared.steps.Step.TheVariants.{Enter};
+ghost use Rattle.referencing.specs.Following.{step_of, SaysStepFault};
 ghost use Rattle.ref_calls.specs.Objects.{object_of};
 ghost use Rattle.ref_calls.specs.Outcome.{Answers};
 ghost use Rattle.ref_calls.specs.Calls.{each_item};
 ghost use Rattle.ref_serve.specs.Following as spec;
 ghost use Rattle.ref_serve.specs.Results as results;
-ghost use Rattle.ref_serve.specs.Results.{Gives};
+ghost use Rattle.ref_serve.specs.inner.Giving.{Gives};
 ghost use Rattle.ref_serve.specs.inner.Seen.{asked_view, answer_at, place_at};
 ghost use Rattle.ref_serve.specs.inner.Steps.{followed_view, IsPlaced, placed_at, IsLookedUpTo, IsStepError};
 
 use crate::asked::{Asked, asked_of, resolver_of};
 use crate::entering::resolver_object;
-use crate::place::{Found, found_at, put_found, put_resolver};
+use crate::place::{Found, found_at, located_object};
 use crate::state::State;
 use ref_calls::fault::{Wrong, at_index, fault_members, field_error};
 use ref_calls::field::{draft_of, items_in, required};
 use ref_calls::members::put_number;
 use ref_json::Stop;
-use referencing::{Draft, Error, Resolver, Step};
-use serde_json::{Map, Value};
+use referencing::{Draft, Error, Resolver, ResourceRef, Step};
+use serde_json::Value;
 use std::alloc::{AllocError, Global};
 
 // Where the steps before led: what was found last, and the resolver there.
@@ -114,6 +116,30 @@ fn looked_up<'s>(
     })
 }
 
+// Where entering a resource leads.
+fn after_entering<'s>(
+    alloc: Global,
+    followed: Followed<'s>,
+    resource: ResourceRef<'_>,
+) -> Result<Followed<'s>, Error>
+    requires { IsPlaced (world_of followed.resolver) followed }
+    ensures gives { GivesMeaning followed_view
+        (after_step (world_of followed.entry.resolver) (followed_view followed.entry)
+        (step_of (Enter resource.entry))) result }
+    ensures placed { IfOk result (λ f. IsPlaced (world_of followed.entry.resolver) f) }
+    ensures place { IfOk result
+        (λ f. spec.step_place (world_of followed.entry.resolver)
+        (resolver_view followed.entry.resolver) (placed_at followed.entry)
+        (step_of (Enter resource.entry)) ≡ placed_at f) }
+    ensures world { IfOk result (λ f. world_of f.resolver ≡ world_of followed.entry.resolver) }
+{
+    let resolver = followed.resolver.in_subresource(alloc, resource)?;
+    Ok(Followed {
+        last: followed.last,
+        resolver,
+    })
+}
+
 // One step further.
 fn stepped<'s>(
     alloc: Global,
@@ -134,13 +160,7 @@ fn stepped<'s>(
     match step {
         Step::Lookup(reference) => looked_up(alloc, &followed.resolver, Some(reference)),
         Step::Recursive => looked_up(alloc, &followed.resolver, None),
-        Step::Enter(resource) => {
-            let resolver = followed.resolver.in_subresource(alloc, *resource)?;
-            Ok(Followed {
-                last: followed.last,
-                resolver,
-            })
-        }
+        Step::Enter(resource) => after_entering(alloc, followed, *resource),
     }
 }
 
@@ -153,6 +173,17 @@ fn step_error(alloc: Global, number: usize, error: &Error) -> Result<Value, Allo
     let mut members = fault_members(alloc, error)?;
     put_number(alloc, &mut members, "step", number)?;
     Ok(Value::Object(members))
+}
+
+// Why following ends at a step.
+fn step_stop(alloc: Global, number: usize, error: &Error) -> Stop<Value>
+    ensures { (whole : Result world.Followed (ℕ × Fault)) → SaysStepFault whole number error.now
+        → IsStepError whole result }
+{
+    match step_error(alloc, number, error) {
+        Ok(object) => Stop::Because(object),
+        Err(_) => Stop::Memory,
+    }
 }
 
 // Where the steps lead.
@@ -178,28 +209,10 @@ fn all_followed<'s>(
     for (number, step) in steps.iter().enumerate() {
         followed = match stepped(alloc, followed, step) {
             Ok(next) => next,
-            Err(error) => return Err(Stop::Because(step_error(alloc, number, &error)?)),
+            Err(error) => return Err(step_stop(alloc, number, &error)),
         };
     }
     Ok(followed)
-}
-
-// The object of a value that was found, with the base and the scope after it.
-fn located_object(
-    alloc: Global,
-    asked: &Asked<'_>,
-    found: &Found<'_>,
-    resolver: &Resolver<'_>,
-) -> Result<Value, AllocError>
-    ensures { IfOk result (λ d. view d
-        ≡ object_of (results.found_members (asked_view asked.now) found.now.location
-        (view found.now.value.now) found.now.draft
-        ++ results.resolver_members (resolver_view resolver.now))) }
-{
-    let mut members = Map::new(alloc);
-    put_found(alloc, &mut members, asked, found)?;
-    put_resolver(alloc, &mut members, resolver)?;
-    Ok(Value::Object(members))
 }
 
 // The object of where the steps lead.

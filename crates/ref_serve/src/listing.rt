@@ -47,7 +47,7 @@ fn dangling_object(alloc: Global, entry: &Dangling<'_>) -> Result<Value, AllocEr
 fn places_in(alloc: Global, registry: &Registry<'_>) -> Result<Value, AllocError>
     ensures { IfOk result (λ d. view d ≡ spec.places_list registry.now) }
 {
-    // It refuses where memory is refused alone.
+    // Out of memory is its one error.
     let Ok(places) = registry.places(alloc) else {
         return Err(AllocError);
     };
@@ -64,9 +64,13 @@ fn places_in(alloc: Global, registry: &Registry<'_>) -> Result<Value, AllocError
 fn dangling_in(alloc: Global, registry: &Registry<'_>) -> Result<Value, AllocError>
     ensures { IfOk result (λ d. view d ≡ spec.dangling_list registry.now) }
 {
-    // It refuses where memory is refused alone.
-    let Ok(entries) = dangling(alloc, registry) else {
-        return Err(AllocError);
+    let entries = match dangling(alloc, registry) {
+        Ok(entries) => entries,
+        // Out of memory is its one error.
+        Err(error) => {
+            drop(error);
+            return Err(AllocError);
+        }
     };
     let mut list = Vec::with_capacity(alloc, entries.len())?;
     for entry in &entries {

@@ -6,18 +6,19 @@ ghost use Rattle.ref_resolver.specs.Resolving.{resolver_of as resolver_view, wor
 ghost use Rattle.ref_calls.specs.Calls.{each_item};
 ghost use Rattle.ref_calls.specs.Outcome.{Answers};
 ghost use Rattle.ref_serve.specs.Results as results;
-ghost use Rattle.ref_serve.specs.Results.{Gives, Then};
+ghost use Rattle.ref_serve.specs.Results.{Then};
+ghost use Rattle.ref_serve.specs.inner.Giving.{Gives, IsListedAs};
 ghost use Rattle.ref_serve.specs.inner.Seen.{asked_view, answer_at, place_at};
 
 use crate::asked::{Asked, asked_of, resolver_of};
-use crate::place::{found_at, put_found, put_resolver};
+use crate::place::{found_at, located_object};
 use crate::state::State;
 use ref_calls::fault::{Wrong, at_index, fault_error, field_error};
 use ref_calls::field::{required, text_in};
 use ref_calls::members::object_of;
 use ref_json::Stop;
 use referencing::{Error, Resolver};
-use serde_json::{Map, Value};
+use serde_json::Value;
 use std::alloc::Global;
 
 // What a reference means, as an object.
@@ -39,10 +40,7 @@ fn found_object(
         (λ r. r.now) reference.entry))) }
 {
     let (found, next) = found_at(alloc, resolver, reference)?;
-    let mut members = Map::new(alloc);
-    put_found(alloc, &mut members, asked, &found)?;
-    put_resolver(alloc, &mut members, &next)?;
-    Ok(Value::Object(members))
+    Ok(located_object(alloc, asked, &found, &next)?)
 }
 
 // The same, or the error of its fault.
@@ -87,7 +85,7 @@ fn found_item(
     requires { world_of resolver.now ≡ asked.now.registry.now.0 }
     ensures { Gives
         (Then (results.reference_in index (view item.now))
-        (results.IsListedAs (asked_view asked.now)
+        (IsListedAs (asked_view asked.now)
         (resolver_view resolver.now))) result }
 {
     let reference = reference_in(alloc, item, index)?;

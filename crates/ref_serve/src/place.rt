@@ -1,5 +1,5 @@
 //! Where a value is found.
-ghost use Rattle.std.specs.Prelude.{◌≡◌, ◌∷◌, [], codes, map, Some, None, IfOk, IfErr, OnOk, Option};
+ghost use Rattle.std.specs.Prelude.{◌≡◌, ◌∷◌, ◌++◌, [], codes, map, Some, None, IfOk, IfErr, OnOk, Option};
 ghost use Rattle.std.specs.Prelude.{option_map};
 ghost use Rattle.serde_json.specs.Data.{string};
 ghost use Rattle.serde_json.specs.View.{view, members_view};
@@ -8,14 +8,14 @@ ghost use Rattle.ref_paths.specs.Segment.{part_of};
 ghost use Rattle.ref_error.specs.Errors.{IsFaultOf};
 ghost use Rattle.ref_resolver.specs.Locations.{GivesWhere, location_view};
 ghost use Rattle.ref_resolver.specs.Resolving.{resolver_of, world_of};
-ghost use Rattle.ref_calls.specs.Objects.{with_all, whole};
+ghost use Rattle.ref_calls.specs.Objects.{object_of, with_all, whole};
 ghost use Rattle.ref_serve.specs.Results as results;
 ghost use Rattle.ref_serve.specs.inner.Seen.{asked_view, IsFoundBy, answer_at, place_at};
 
 use crate::asked::Asked;
 use ref_calls::members::{Members, put_number, put_text, uris_of};
 use referencing::{Draft, Error, JsonPointerSegment, Location, Resolver, pointer_of};
-use serde_json::{Value, put};
+use serde_json::{Map, Value, put};
 use std::alloc::{AllocError, Global};
 
 // Where the value is that a reference means, or without one a recursive reference.
@@ -143,4 +143,22 @@ pub fn put_found(
     put(members, alloc, "pointer", Value::String(pointer))?;
     put_text(alloc, members, "draft", found.draft.name())?;
     put_value(alloc, members, asked.values, found.value)
+}
+
+/// The object of a value that was found, with the base and the scope after it.
+pub fn located_object(
+    alloc: Global,
+    asked: &Asked<'_>,
+    found: &Found<'_>,
+    resolver: &Resolver<'_>,
+) -> Result<Value, AllocError>
+    ensures { IfOk result (λ d. view d
+        ≡ object_of (results.found_members (asked_view asked.now) found.now.location
+        (view found.now.value.now) found.now.draft
+        ++ results.resolver_members (resolver_of resolver.now))) }
+{
+    let mut members = Map::new(alloc);
+    put_found(alloc, &mut members, asked, found)?;
+    put_resolver(alloc, &mut members, resolver)?;
+    Ok(Value::Object(members))
 }

@@ -1,4 +1,4 @@
--- What a source and a sink of bytes tell of their calls.
+-- What a source and a sink of bytes say of their calls.
 use Rattle.std.specs.Prelude.{◌≡◌, ℕ, ◌+◌, ◌-◌, ◌^◌, ◌<◌, ◌⊎◌, min, List, ◌++◌, Option, None, Some, Result, Ok, Err}
 
 -- the greatest count of failed calls
@@ -14,7 +14,7 @@ abbrev pub count_after : {T E : Type 0} → Result T E → ℕ → ℕ
 count_after (Ok x) n = n
 count_after (Err e) n = one_more n
 
--- a call failed between the two counts; at its greatest value a count no longer tells, and this counts as met
+-- a call failed between the two counts; a count at its greatest value no longer grows, so there this counts as met
 abbrev pub HasFailed : ℕ → ℕ → Type 0
 HasFailed before after = (before < after) ⊎ (after ≡ most)
 

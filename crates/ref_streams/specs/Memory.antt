@@ -1,4 +1,4 @@
--- A source over memory, as its place in the bytes tells it.
+-- A source over memory, given by how many of its bytes were read.
 use Rattle.std.specs.Prelude.{ℕ, Bool, List, Option, Some, length, drop, ◌==◌}
 use Rattle.ref_streams.specs.declared.source.MemorySource.{MemorySource}
 

@@ -1,7 +1,7 @@
 -- Rows of failed calls.
 use Rattle.ref_streams.specs.Bytes.{most, HasFailed}
 
--- which counts tell that a call failed between them
+-- between which counts a call failed
 pub record FailureRows : Type 0 where
   pub one_more : HasFailed 0 1
   pub as_before : ¬ (HasFailed 1 1)

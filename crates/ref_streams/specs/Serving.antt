@@ -23,7 +23,7 @@ Answers {S} may_answer service (line ∷ more) end text =
     (next : S) × (first rest : List ℕ) × AnswersLine may_answer service line next first
     × Answers may_answer next more end rest × (text ≡ first ++ rest)
 
--- The source gave some bytes, and the sink took the answers to the lines into which these are cut. Where the source tells
+-- The source gave some bytes, and the sink took the answers to the lines into which these are cut. Where the source says
 -- which bytes are left, those that it gave were before them.
 abbrev pub Serves : {S : Type 0} → (List ℕ → List (List ℕ)) → (S → List ℕ → S → List ℕ → Type 0)
     → S → S → Option (List ℕ) → Option (List ℕ) → Option (List ℕ) → Option (List ℕ) → Type 0

@@ -93,7 +93,7 @@ fn write<W: Sink>(writer: &mut W, answer: &Result<Vec<u8>, AllocError>) -> Resul
 /// all those answers were written but for an end of the last. `Memory` where a count of 64 bits runs out, of lines or of the reads for one, which takes
 /// a source that gave 2^64 - 2 bytes or more: then it answered the first lines of these, and all those answers were written.
 /// Where memory is refused for a line, the answer says so, and the next line is answered. All this is said of a source and a
-/// sink that tell their bytes; standard input and output tell none. Linear in the bytes, but for the answers.
+/// sink that show their bytes; standard input and output show none. Linear in the bytes, but for the answers.
 pub fn serve<R: Source, W: Sink, S: Service>(
     alloc: Global,
     reader: &mut R,

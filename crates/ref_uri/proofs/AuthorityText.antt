@@ -11,7 +11,7 @@ use Rattle.ref_uri.specs.Authority.{is_authority, userinfo, host, port_part, hos
 use Rattle.ref_uri.specs.Components.{framed_component, if_there}
 use Rattle.ref_uri.proofs.EncodedLemmas.{any_is_found}
 use Rattle.ref_uri.proofs.AuthorityCharacters.{is_literal_character, literal_characters, list_all-wider}
-use Rattle.ref_uri.proofs.UniqueLemmas.{Starts, first_behind, before_behind, encoded_apart}
+use Rattle.ref_uri.proofs.UniqueLemmas.{Starts, first_past, before_after, encoded_apart}
 use Rattle.ref_uri.proofs.NormalLemmas.{drop_past}
 
 -- The parts of an authority that hold what they may.
@@ -42,7 +42,7 @@ position-front p (c ∷ front) rest lt =
 
 none_passes : (p : ℕ → Bool) (text : List ℕ) → list_all (λ c. not (p c)) text ≡ true → list_any p text ≡ false
 none_passes p text all =
-    let at = first_behind p text [] all (inl refl) in
+    let at = first_past p text [] all (inl refl) in
     any_is_found p text ∙ le-ltb (position_or_len p text) (length text) (omega (arith, at, ap (λ t. position_or_len p t) (append-nil text)))
 
 -- how long the host is, with a port after it
@@ -58,7 +58,7 @@ port_starts (c ∷ digits) h = inr (and_parts (eqb c 58) (list_all is_ascii_digi
 
 host_len-named : (name port : List ℕ) → is_encoded is_name_character name ≡ true → is_port_part port ≡ true → host_len (name ++ port) ≡ length name
 host_len-named name port h k =
-    rw (no_bracket name port h k) (first_behind (λ c. eqb c 58) name port (encoded_apart is_name_character (λ c. eqb c 58) (λ c j. grind (arith, nat_tests)) name h) (port_starts port k))
+    rw (no_bracket name port h k) (first_past (λ c. eqb c 58) name port (encoded_apart is_name_character (λ c. eqb c 58) (λ c j. grind (arith, nat_tests)) name h) (port_starts port k))
   where
     other : (c : ℕ) → (is_name_character c || eqb c 37) ≡ true → eqb c 91 ≡ false
     other c j = grind (arith, nat_tests)
@@ -112,10 +112,10 @@ parts_found (Some x) h p are =
     let text = (x ++ 64 ∷ []) ++ h ++ p in
     let shape : text ≡ x ++ 64 ∷ (h ++ p) = append_assoc (x ++ 64 ∷ []) h p ∙ append_assoc x (64 ∷ []) (h ++ p) in
     let apart = encoded_apart is_userinfo_character (λ c. eqb c 64) (λ c k. grind (arith, nat_tests)) x are.userinfo_test in
-    let at = first_behind (λ c. eqb c 64) x (64 ∷ (h ++ p)) apart (inr refl) in
+    let at = first_past (λ c. eqb c 64) x (64 ∷ (h ++ p)) apart (inr refl) in
     let within : position_or_len (λ c. eqb c 64) (x ++ 64 ∷ (h ++ p)) < length (x ++ 64 ∷ (h ++ p)) = omega (arith, at, length-append x (64 ∷ (h ++ p))) in
     let some : list_any (λ c. eqb c 64) (x ++ 64 ∷ (h ++ p)) ≡ true = any_is_found (λ c. eqb c 64) (x ++ 64 ∷ (h ++ p)) ∙ lt-ltb _ _ within in
-    let before = before_behind (λ c. eqb c 64) x (64 ∷ (h ++ p)) apart (inr refl) in
+    let before = before_after (λ c. eqb c 64) x (64 ∷ (h ++ p)) apart (inr refl) in
     let after : after_first (λ c. eqb c 64) (x ++ 64 ∷ (h ++ p)) ≡ h ++ p = ap (λ n. drop (n + 1) (x ++ 64 ∷ (h ++ p))) at ∙ drop_past x 64 (h ++ p) in
     subst (λ (t : List ℕ). Found t (Some x) h p) (sym shape) (found_from (x ++ 64 ∷ (h ++ p)) (Some x) h p (rw (some, before) refl) (rw (some, after) refl) are.host_test are.port_test)
 

@@ -122,7 +122,7 @@ bracket_found t n le h =
     let either : (is_address (take end t) || is_future_address (take end t)) ≡ true = subst (λ (l : List ℕ). (is_address l || is_future_address l) ≡ true) front both.1 in
     (omega arith, subst (λ (p : ℕ). BracketFound t p) place (at_end, either))
 
--- the first byte tells which address it is
+-- the first byte shows which address it is
 pub address_found : (t : List ℕ) (p : ℕ) → p < length t → get_or t p 0 ≡ 93 → is_address (take p t) ≡ true → (prefix_len is_address_character t ≡ p) × (0 < p) × ((eqb (get_or t 0 0) 118 || eqb (get_or t 0 0) 86) ≡ false)
 address_found t p lt bracket h =
     let both = and_parts (ltb 0 (length (take p t))) (list_all is_address_character (take p t)) h in

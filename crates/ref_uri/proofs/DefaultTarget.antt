@@ -10,11 +10,11 @@ use Rattle.ref_uri.specs.inner.Lengths.{IsParsedUri}
 use Rattle.ref_uri.specs.Normal.{normal_components, normal_text, normal_authority, normal_form}
 use Rattle.ref_uri.specs.Reference.{is_uri_reference}
 use Rattle.ref_uri.specs.Resolution.{query_or, target_path, target_text, resolved_components}
-use Rattle.ref_uri.specs.inner.Target.{lengths_of_components, path_behind, target_with_dots}
+use Rattle.ref_uri.specs.inner.Target.{lengths_of_components, path_past, target_with_dots}
 use Rattle.ref_uri.specs.Targets.{default_base}
 use Rattle.ref_uri.proofs.Meanings.{default_is_reference, default_has_scheme}
 use Rattle.ref_uri.proofs.NormalLemmas.{normal_character}
-use Rattle.ref_uri.proofs.NormalTargets.{normal_parts_are, dots_with_authority, dots_of_base, dots_behind}
+use Rattle.ref_uri.proofs.NormalTargets.{normal_parts_are, dots_with_authority, dots_of_base, dots_past}
 use Rattle.ref_uri.proofs.NormalTwice.{default_components, default_is, authority_settled, root_is, components_of_normal}
 use Rattle.ref_uri.proofs.TargetLemmas.{the_components, each_same, none_in_front, slash_in_front, resolved_of_base, resolved_path}
 use Rattle.ref_uri.proofs.UniqueLemmas.{tested}
@@ -40,7 +40,7 @@ default_parts None path q f whole = by_path (eqb (length path) 0) refl
     own_query None = refl
     own_query (Some x) = refl
 
-    behind : (slash : Bool) → eqb (get_or path 0 0) 47 ≡ slash → target_path default_components (normal_text path) ≡ remove_dot_segments (normal_text (path_behind default_components path))
+    behind : (slash : Bool) → eqb (get_or path 0 0) 47 ≡ slash → target_path default_components (normal_text path) ≡ remove_dot_segments (normal_text (path_past default_components path))
     behind true e =
         let slash : eqb (get_or (normal_text path) 0 0) 47 ≡ true = slash_in_front path whole ∙ e in
         rw (slash, e) refl
@@ -56,8 +56,8 @@ default_parts None path q f whole = by_path (eqb (length path) 0) refl
         ∙ ap normal_components (sym (dots_of_base default_components (the_components None None path q f) refl refl e))
     by_path false e =
         resolved_path default_components n refl refl (none_in_front path whole ∙ e)
-        ∙ at_root (path_behind default_components path) (target_path default_components (normal_text path)) q (behind (eqb (get_or path 0 0) 47) refl)
-        ∙ ap normal_components (sym (dots_behind default_components (the_components None None path q f) refl refl e))
+        ∙ at_root (path_past default_components path) (target_path default_components (normal_text path)) q (behind (eqb (get_or path 0 0) 47) refl)
+        ∙ ap normal_components (sym (dots_past default_components (the_components None None path q f) refl refl e))
 
 -- the same of a text
 pub default_target : (text : List ℕ) → is_uri_reference text ≡ true → is_some (scheme text) ≡ false → normal_components (target_with_dots (components default_base) (components text)) ≡ resolved_components (components default_base) (normal_components (components text))

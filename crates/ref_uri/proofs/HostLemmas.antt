@@ -57,8 +57,8 @@ port_accepted (c ∷ t) colon =
     read_on k = let e : 1 + k ≡ suc k = omega arith in rw e refl
 
 -- a port after a place in the authority
-pub port_behind : (t : List ℕ) (k r : ℕ) → k ≤ length t → k ≤ position_or_len ends_authority t → ends_authority_at (drop k t) r ≡ is_port_part (before_first ends_authority (drop k t)) → ends_authority_at t (k + r) ≡ is_port_part (drop k (before_first ends_authority t))
-port_behind t k r le inner h = sym (ends_authority_at-drop t k r le) ∙ h ∙ ap is_port_part (before_first-drop ends_authority t k inner)
+pub port_after : (t : List ℕ) (k r : ℕ) → k ≤ length t → k ≤ position_or_len ends_authority t → ends_authority_at (drop k t) r ≡ is_port_part (before_first ends_authority (drop k t)) → ends_authority_at t (k + r) ≡ is_port_part (drop k (before_first ends_authority t))
+port_after t k r le inner h = sym (ends_authority_at-drop t k r le) ∙ h ∙ ap is_port_part (before_first-drop ends_authority t k inner)
 
 -- a front of characters and triples lies inside the authority
 pub encoded_inside : (t : List ℕ) (k : ℕ) → k ≤ length t → is_encoded is_userinfo_character (take k t) ≡ true → k ≤ position_or_len ends_authority t
@@ -152,16 +152,16 @@ bracket_len_is s m le h =
     (inner, omega arith)
 
 -- what is after `[` up to the end of the authority
-pub part_behind : (t : List ℕ) → get_or t 0 0 ≡ 91 → before_first ends_authority t ≡ 91 ∷ before_first ends_authority (drop 1 t)
-part_behind [] mark = absurd (omega (arith, mark))
-part_behind (c ∷ t) mark = rw (before_first-cons ends_authority c t, mark) refl
+pub part_past : (t : List ℕ) → get_or t 0 0 ≡ 91 → before_first ends_authority t ≡ 91 ∷ before_first ends_authority (drop 1 t)
+part_past [] mark = absurd (omega (arith, mark))
+part_past (c ∷ t) mark = rw (before_first-cons ends_authority c t, mark) refl
 
-end_behind : (t : List ℕ) → get_or t 0 0 ≡ 91 → position_or_len ends_authority t ≡ 1 + position_or_len ends_authority (drop 1 t)
-end_behind [] mark = absurd (omega (arith, mark))
-end_behind (c ∷ t) mark = rw mark refl
+end_after : (t : List ℕ) → get_or t 0 0 ≡ 91 → position_or_len ends_authority t ≡ 1 + position_or_len ends_authority (drop 1 t)
+end_after [] mark = absurd (omega (arith, mark))
+end_after (c ∷ t) mark = rw mark refl
 
 pub brackets_inside : (t : List ℕ) (m : ℕ) → get_or t 0 0 ≡ 91 → m ≤ length (drop 1 t) → is_address_and_bracket (take m (drop 1 t)) ≡ true → 1 + m ≤ position_or_len ends_authority t
-brackets_inside t m mark le h = omega (arith, end_behind t mark, (bracket_len_is (drop 1 t) m le h).0)
+brackets_inside t m mark le h = omega (arith, end_after t mark, (bracket_len_is (drop 1 t) m le h).0)
 
 pub brackets_accepted : (t : List ℕ) (m : ℕ) → get_or t 0 0 ≡ 91 → m ≤ length (drop 1 t) → is_address_and_bracket (take m (drop 1 t)) ≡ true → is_port_part (drop (1 + m) (before_first ends_authority t)) ≡ is_host_and_port (before_first ends_authority t)
 brackets_accepted t m mark le h =
@@ -170,7 +170,7 @@ brackets_accepted t m mark le h =
     let len : bracket_len b ≡ m = is.1 in
     let front : take m b ≡ take m (drop 1 t) = take-take m (position_or_len ends_authority (drop 1 t)) (drop 1 t) is.0 in
     let one : 1 + m ≡ suc m = omega arith in
-    rw (part_behind t mark, one) (sym (in_brackets b ∙ rw (len, front, h) refl))
+    rw (part_past t mark, one) (sym (in_brackets b ∙ rw (len, front, h) refl))
 
 -- where no front after `[` is an address and its `]`, no host is there
 pub brackets_none : (t : List ℕ) → get_or t 0 0 ≡ 91 → ((n : ℕ) → n ≤ length (drop 1 t) → is_address_and_bracket (take n (drop 1 t)) ≡ true → ⊥) → is_host_and_port (before_first ends_authority t) ≡ false
@@ -181,7 +181,7 @@ brackets_none t mark none =
     let short : end ≤ length (drop 1 t) = prefix_len-le-length (λ c. not (ends_authority c)) (drop 1 t) in
     let front : take (bracket_len b) b ≡ take (bracket_len b) (drop 1 t) = take-take (bracket_len b) end (drop 1 t) (omega arith) in
     let no_address : is_address_and_bracket (take (bracket_len b) b) ≡ false = false_from_ne_true _ (λ yes. none (bracket_len b) (omega arith) (subst (λ (l : List ℕ). is_address_and_bracket l ≡ true) front yes)) in
-    ap is_host_and_port (part_behind t mark) ∙ in_brackets b ∙ and_left (is_address_and_bracket (take (bracket_len b) b)) (is_port_part (drop (bracket_len b) b)) no_address
+    ap is_host_and_port (part_past t mark) ∙ in_brackets b ∙ and_left (is_address_and_bracket (take (bracket_len b) b)) (is_port_part (drop (bracket_len b) b)) no_address
 
 -- a port after a place in the authority lies inside it
 pub port_inside : (t : List ℕ) (k r : ℕ) → k ≤ position_or_len ends_authority t → r ≤ length (drop k t) → is_encoded is_userinfo_character (take r (drop k t)) ≡ true → k + r ≤ position_or_len ends_authority t

@@ -3,7 +3,7 @@ use Rattle.std.proofs.Common.{◌≡◌, ◌≢◌, ℕ, suc, ◌+◌, ◌-◌, 
 use Rattle.std.specs.List.{onto_first}
 use Rattle.std.proofs.lemmas.Bool.{cases_eq, false_from_ne_true, or_parts, or_from}
 use Rattle.std.proofs.lemmas.Slice.Eq.{bytes_eq-Decides}
-use Rattle.ref_uri.specs.DotSegments.{segments, behind_slashes, joined_segments, is_dot, is_dot_dot, is_dot_segment}
+use Rattle.ref_uri.specs.DotSegments.{segments, after_slashes, joined_segments, is_dot, is_dot_dot, is_dot_segment}
 use Rattle.ref_uri.specs.inner.Removal.{path_after, progress_after, slash_of, AreNames, IsInside}
 use Rattle.ref_uri.specs.declared.dots.Progress.{Progress}
 use Rattle.ref_uri.specs.declared.dots.Progress.TheVariants.{Front, Within, Dots}
@@ -85,12 +85,12 @@ are_names path inside =
     at_front dot = let none : 0 < 0 = (inside 0 (nonempty path dot) dot).0 in absurd (omega arith)
 
 -- names after a path
-names_within : (path : List ℕ) (names : List (List ℕ)) → AreNames names → (path_after Within path names ≡ path ++ behind_slashes names) × (progress_after Within names ≡ Within)
+names_within : (path : List ℕ) (names : List (List ℕ)) → AreNames names → (path_after Within path names ≡ path ++ after_slashes names) × (progress_after Within names ≡ Within)
 names_within path [] all = (sym (append-nil path), refl)
 names_within path (s ∷ names) all =
     let both = or_parts (is_dot s) (is_dot_dot s) all.0 in
     let more = names_within (path ++ 47 ∷ s) names all.1 in
-    (rw (both.0, both.1) (more.0 ∙ append_assoc path (47 ∷ s) (behind_slashes names)), rw (both.0, both.1) more.1)
+    (rw (both.0, both.1) (more.0 ∙ append_assoc path (47 ∷ s) (after_slashes names)), rw (both.0, both.1) more.1)
 
 -- names that are written after a path
 pub names_after : (progress : Progress) (path : List ℕ) (names : List (List ℕ)) (text : List ℕ) → segments text ≡ names → AreNames names → (path_after progress path names ≡ path ++ (slash_of progress ++ text)) × (progress_after progress names ≡ Within)
@@ -101,13 +101,13 @@ names_after progress path [] text is all = let shape = segments-shape text in ab
 names_after Front path (s ∷ names) text is all =
     let both = or_parts (is_dot s) (is_dot_dot s) all.0 in
     let more = names_within (path ++ s) names all.1 in
-    let whole : s ++ behind_slashes names ≡ text = ap joined_segments (sym is) ∙ joined-segments text in
-    (rw (both.0, both.1) (more.0 ∙ append_assoc path s (behind_slashes names) ∙ ap (λ t. path ++ t) whole), rw (both.0, both.1) more.1)
+    let whole : s ++ after_slashes names ≡ text = ap joined_segments (sym is) ∙ joined-segments text in
+    (rw (both.0, both.1) (more.0 ∙ append_assoc path s (after_slashes names) ∙ ap (λ t. path ++ t) whole), rw (both.0, both.1) more.1)
 names_after Within path (s ∷ names) text is all =
     let more = names_within path (s ∷ names) all in
-    let whole : s ++ behind_slashes names ≡ text = ap joined_segments (sym is) ∙ joined-segments text in
+    let whole : s ++ after_slashes names ≡ text = ap joined_segments (sym is) ∙ joined-segments text in
     (more.0 ∙ ap (λ t. path ++ 47 ∷ t) whole, more.1)
 names_after Dots path (s ∷ names) text is all =
     let more = names_within path (s ∷ names) all in
-    let whole : s ++ behind_slashes names ≡ text = ap joined_segments (sym is) ∙ joined-segments text in
+    let whole : s ++ after_slashes names ≡ text = ap joined_segments (sym is) ∙ joined-segments text in
     (more.0 ∙ ap (λ t. path ++ 47 ∷ t) whole, more.1)

@@ -9,7 +9,7 @@ use Rattle.ref_uri.specs.Normal.{normal_triple, normal_text}
 use Rattle.ref_uri.specs.inner.Scans.{begins_with_triple}
 use Rattle.ref_uri.specs.inner.Written.{IsNormalUpTo}
 use Rattle.ref_uri.proofs.EncodedLemmas.{whole_at}
-use Rattle.ref_uri.proofs.NormalLemmas.{normal_none, normal_run, normal_triple_front, whole_behind}
+use Rattle.ref_uri.proofs.NormalLemmas.{normal_none, normal_run, normal_triple_front, whole_after}
 
 -- a run without `%`, and what follows it
 run_in_front : (text : List ℕ) (n : ℕ) → n ≤ length text → ((k : ℕ) → k < n → get_or text k 0 ≢ 37) → normal_text text ≡ take n text ++ normal_text (drop n text)
@@ -19,7 +19,7 @@ run_in_front text n within none =
     ∙ ap (λ t. t ++ normal_text (drop n text)) (map-id (take n text))
 
 whole_drop : (text : List ℕ) (n : ℕ) → has_whole_triples text ≡ true → has_whole_triples (drop n text) ≡ true
-whole_drop text n whole = whole_behind (take n text) (drop n text) (subst (λ t. has_whole_triples t ≡ true) (sym (take-append-drop n text)) whole)
+whole_drop text n whole = whole_after (take n text) (drop n text) (subst (λ t. has_whole_triples t ≡ true) (sym (take-append-drop n text)) whole)
 
 -- a `%` in whole triples begins one
 triple_at : (text : List ℕ) → has_whole_triples text ≡ true → 0 < length text → get_or text 0 0 ≡ 37 → begins_with_triple text ≡ true
@@ -108,8 +108,8 @@ triple_turn before text at is lt =
     ∙ ap (λ r. before ++ (take at text ++ r)) (sym (triple_more text at t))
     ∙ ap (λ r. before ++ r) (sym is.front)
 
-pub behind_triple : (text : List ℕ) (at : ℕ) → IsNormalUpTo text at → has_whole_triples (drop (at + 3) text) ≡ true
-behind_triple text at is = subst (λ r. has_whole_triples r ≡ true) (drop-drop 3 at text) (whole_drop (drop at text) 3 is.behind)
+pub after_triple : (text : List ℕ) (at : ℕ) → IsNormalUpTo text at → has_whole_triples (drop (at + 3) text) ≡ true
+after_triple text at is = subst (λ r. has_whole_triples r ≡ true) (drop-drop 3 at text) (whole_drop (drop at text) 3 is.behind)
 
 -- a text that is in normal form to its end
 pub normal_to_end : (text : List ℕ) (at : ℕ) → IsNormalUpTo text at → length text ≤ at → normal_text text ≡ text

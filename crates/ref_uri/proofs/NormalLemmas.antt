@@ -36,9 +36,9 @@ unfolding normal_encoded
 normal_triple_front fold high low rest h l = refl
 
 -- what follows in a text of whole triples
-pub whole_behind : (p q : List ℕ) → has_whole_triples (p ++ q) ≡ true → has_whole_triples q ≡ true
-whole_behind [] q h = h
-whole_behind (c ∷ p) q h = whole_behind p q (and_parts _ _ h).1
+pub whole_after : (p q : List ℕ) → has_whole_triples (p ++ q) ≡ true → has_whole_triples q ≡ true
+whole_after [] q h = h
+whole_after (c ∷ p) q h = whole_after p q (and_parts _ _ h).1
 
 -- Two hex digits at the front, and what follows them.
 pub record Digits (text : List ℕ) : Type 0 where
@@ -63,27 +63,27 @@ drop_past front c rest = ap (λ n. drop n (front ++ c ∷ rest)) (add-one (lengt
     at_seam (x ∷ a) = at_seam a
 
 -- The text after the first `%` of a text of whole triples.
-pub record Behind (text : List ℕ) : Type 0 where
+pub record Past (text : List ℕ) : Type 0 where
   pub digits : Digits text
   pub ascii : IsAscii text
   pub whole : has_whole_triples (drop 2 text) ≡ true
 
-pub behind_percent : (text run rest : List ℕ) → text ≡ run ++ 37 ∷ rest → IsAscii text → has_whole_triples text ≡ true → Behind rest
-behind_percent text run rest cut ascii whole =
+pub after_percent : (text run rest : List ℕ) → text ≡ run ++ 37 ∷ rest → IsAscii text → has_whole_triples text ≡ true → Past rest
+after_percent text run rest cut ascii whole =
     let here : has_whole_triples (run ++ 37 ∷ rest) ≡ true = subst (λ (t : List ℕ). has_whole_triples t ≡ true) cut whole in
     let digits = digits_in_front rest (whole_at run rest here) in
-    let inside : has_whole_triples rest ≡ true = whole_behind (run ++ 37 ∷ []) rest (subst (λ (t : List ℕ). has_whole_triples t ≡ true) (sym (append_assoc run (37 ∷ []) rest)) here) in
+    let inside : has_whole_triples rest ≡ true = whole_after (run ++ 37 ∷ []) rest (subst (λ (t : List ℕ). has_whole_triples t ≡ true) (sym (append_assoc run (37 ∷ []) rest)) here) in
     let past : drop (length run + 1) (run ++ 37 ∷ rest) ≡ rest = drop_past run 37 rest in
     record {
       digits = digits;
       ascii = subst IsAscii past (IsAscii-drop (run ++ 37 ∷ rest) (length run + 1) (subst IsAscii cut ascii));
-      whole = behind_two rest inside;
+      whole = after_two rest inside;
     }
   where
-    behind_two : (t : List ℕ) → has_whole_triples t ≡ true → has_whole_triples (drop 2 t) ≡ true
-    behind_two [] h = refl
-    behind_two (a ∷ []) h = refl
-    behind_two (a ∷ b ∷ t) h = whole_behind (a ∷ b ∷ []) t h
+    after_two : (t : List ℕ) → has_whole_triples t ≡ true → has_whole_triples (drop 2 t) ≡ true
+    after_two [] h = refl
+    after_two (a ∷ []) h = refl
+    after_two (a ∷ b ∷ t) h = whole_after (a ∷ b ∷ []) t h
 
 -- one run and one triple more of what is appended
 pub normal_turn : (fold : ℕ → ℕ) (before text run rest : List ℕ) → text ≡ run ++ 37 ∷ rest → ((i : ℕ) → i < length run → get_or run i 0 ≢ 37) → Digits rest → ((before ++ map fold run) ++ normal_triple fold (get_or rest 0 0) (get_or rest 1 0)) ++ normal_encoded fold (drop 2 rest) ≡ before ++ normal_encoded fold text

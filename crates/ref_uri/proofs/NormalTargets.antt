@@ -6,7 +6,7 @@ use Rattle.ref_uri.specs.Components.{Components}
 use Rattle.ref_uri.specs.DotSegments.{remove_dot_segments}
 use Rattle.ref_uri.specs.Normal.{guarded_path, normal_components, normal_text, normal_authority}
 use Rattle.ref_uri.specs.Resolution.{query_or}
-use Rattle.ref_uri.specs.inner.Target.{path_behind, target_with_dots}
+use Rattle.ref_uri.specs.inner.Target.{path_past, target_with_dots}
 use Rattle.ref_uri.proofs.TargetLemmas.{the_components, some_there}
 
 -- components with a scheme, each in normal form
@@ -33,6 +33,6 @@ pub dots_of_base : (base r : Components) → r.scheme ≡ None → r.authority �
 unfolding target_with_dots
 dots_of_base base r s a empty = rw (s, a, empty) refl
 
-pub dots_behind : (base r : Components) → r.scheme ≡ None → r.authority ≡ None → eqb (length r.path) 0 ≡ false → target_with_dots base r ≡ the_components base.scheme base.authority (path_behind base r.path) r.query r.fragment
+pub dots_past : (base r : Components) → r.scheme ≡ None → r.authority ≡ None → eqb (length r.path) 0 ≡ false → target_with_dots base r ≡ the_components base.scheme base.authority (path_past base r.path) r.query r.fragment
 unfolding target_with_dots
-dots_behind base r s a some = rw (s, a, some) refl
+dots_past base r s a some = rw (s, a, some) refl

@@ -16,7 +16,7 @@ use Rattle.std.proofs.lemmas.Str.Ascii.{lowercase-lowercase, uppercase-uppercase
 use Rattle.ref_uri.specs.Characters.{has_whole_triples, is_unreserved, is_encoded, is_userinfo_character, is_path_character, is_query_character}
 use Rattle.ref_uri.specs.Authority.{is_authority, userinfo, host, port_part}
 use Rattle.ref_uri.specs.Components.{Components, components, are_components, scheme, text_of, if_there, is_query, begins_with_slashes}
-use Rattle.ref_uri.specs.DotSegments.{segments, behind_slashes, joined_segments, is_dot, is_dot_dot, is_dot_segment, first_after, kept_after, remaining_segments, ends_in_dots, without_dots, remove_dot_segments}
+use Rattle.ref_uri.specs.DotSegments.{segments, after_slashes, joined_segments, is_dot, is_dot_dot, is_dot_segment, first_after, kept_after, remaining_segments, ends_in_dots, without_dots, remove_dot_segments}
 use Rattle.ref_uri.specs.Normal.{hex_value, normal_triple, normal_encoded, normal_text, normal_host, normal_port_part, normal_authority, guarded_path, normal_components, normal_path, normal_form}
 use Rattle.ref_uri.specs.Reference.{is_uri_reference}
 use Rattle.ref_uri.specs.Resolution.{merged_path, query_or, target_path, with_guard, target_text, resolved_components}
@@ -110,14 +110,14 @@ root_settled : IsSettled []
 unfolding IsSettled
 root_settled = (refl, normal_none (λ c. c))
 
-slashes_settled : (parts : List (List ℕ)) → AllByRecursion IsSettled parts → (has_whole_triples (behind_slashes parts) ≡ true) × (normal_text (behind_slashes parts) ≡ behind_slashes parts)
+slashes_settled : (parts : List (List ℕ)) → AllByRecursion IsSettled parts → (has_whole_triples (after_slashes parts) ≡ true) × (normal_text (after_slashes parts) ≡ after_slashes parts)
 unfolding IsSettled
 slashes_settled [] h = (refl, normal_none (λ c. c))
 slashes_settled (s ∷ parts) h =
     let rest = slashes_settled parts h.1 in (
-      whole-append s (behind_slashes parts) h.0.0 rest.0,
-      normal_character (λ c. c) 47 (s ++ behind_slashes parts) (λ e. absurd (omega arith))
-          ∙ ap (λ t. 47 ∷ t) (normal-append s (behind_slashes parts) h.0.0 ∙ ap (λ t. t ++ normal_text (behind_slashes parts)) h.0.1 ∙ ap (λ t. s ++ t) rest.1),
+      whole-append s (after_slashes parts) h.0.0 rest.0,
+      normal_character (λ c. c) 47 (s ++ after_slashes parts) (λ e. absurd (omega arith))
+          ∙ ap (λ t. 47 ∷ t) (normal-append s (after_slashes parts) h.0.0 ∙ ap (λ t. t ++ normal_text (after_slashes parts)) h.0.1 ∙ ap (λ t. s ++ t) rest.1),
     )
 
 joined_settled : (parts : List (List ℕ)) → AllByRecursion IsSettled parts → normal_text (joined_segments parts) ≡ joined_segments parts
@@ -125,7 +125,7 @@ unfolding IsSettled
 joined_settled [] h = normal_none (λ c. c)
 joined_settled (first ∷ rest) h =
     let behind = slashes_settled rest h.1 in
-    normal-append first (behind_slashes rest) h.0.0 ∙ ap (λ t. t ++ normal_text (behind_slashes rest)) h.0.1 ∙ ap (λ t. first ++ t) behind.1
+    normal-append first (after_slashes rest) h.0.0 ∙ ap (λ t. t ++ normal_text (after_slashes rest)) h.0.1 ∙ ap (λ t. first ++ t) behind.1
 
 segments_settled : (path : List ℕ) → has_whole_triples path ≡ true → AllByRecursion IsSettled (segments (normal_text path))
 unfolding IsSettled

@@ -9,7 +9,7 @@ use Rattle.std.specs.Str.{IsAscii}
 use Rattle.ref_uri.specs.Characters.{begins_with_hex_digits, has_whole_triples}
 use Rattle.ref_uri.specs.DotSegments.{segments}
 use Rattle.ref_uri.proofs.EncodedLemmas.{whole_at}
-use Rattle.ref_uri.proofs.NormalLemmas.{Behind, behind_percent}
+use Rattle.ref_uri.proofs.NormalLemmas.{Past, after_percent}
 
 -- the text, and what is appended
 pub with_appended : (buffer text : List ℕ) (n : ℕ) → take n buffer ≡ text → buffer ≡ text ++ drop n buffer
@@ -55,7 +55,7 @@ pub record AtPercent (text : List ℕ) (at len : ℕ) : Type 0 where
   pub cut : drop at text ≡ take len (drop at text) ++ 37 ∷ drop (at + len + 1) text
   pub none : (i : ℕ) → i < length (take len (drop at text)) → get_or (take len (drop at text)) i 0 ≢ 37
   pub digits : begins_with_hex_digits (drop (at + len + 1) text) ≡ true
-  pub behind : Behind (drop (at + len + 1) text)
+  pub behind : Past (drop (at + len + 1) text)
 
 pub at_percent : (text : List ℕ) (at len : ℕ) → IsAscii text → has_whole_triples (drop at text) ≡ true → len < length (drop at text) → get_or (drop at text) len 0 ≡ 37 → ((i : ℕ) → i < len → get_or (drop at text) i 0 ≢ 37) → AtPercent text at len
 at_percent text at len ascii whole within percent none =
@@ -66,5 +66,5 @@ at_percent text at len ascii whole within percent none =
       cut = cut;
       none = λ i lt e. let below : i < len = omega (arith, length-take-le len left) in none i below (sym (get_or-take len left i 0 below) ∙ e);
       digits = whole_at (take len left) (drop (at + len + 1) text) (subst (λ (t : List ℕ). has_whole_triples t ≡ true) cut whole);
-      behind = behind_percent left (take len left) (drop (at + len + 1) text) cut (IsAscii-drop text at ascii) whole;
+      behind = after_percent left (take len left) (drop (at + len + 1) text) cut (IsAscii-drop text at ascii) whole;
     }

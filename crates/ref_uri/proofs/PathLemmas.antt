@@ -76,12 +76,12 @@ slashes_in_front k text h =
     long (suc (suc k)) text e = omega arith
 
 -- after an authority the path is empty or begins with `/`
-pub path_behind_authority : (text : List ℕ) → ((eqb (length (before_first ends_path (drop (position_or_len ends_authority text) text))) 0) || (eqb (get_or (before_first ends_path (drop (position_or_len ends_authority text) text)) 0 0) 47)) ≡ true
-path_behind_authority [] = refl
-path_behind_authority (c ∷ text) =
+pub path_after_authority : (text : List ℕ) → ((eqb (length (before_first ends_path (drop (position_or_len ends_authority text) text))) 0) || (eqb (get_or (before_first ends_path (drop (position_or_len ends_authority text) text)) 0 0) 47)) ≡ true
+path_after_authority [] = refl
+path_after_authority (c ∷ text) =
     elim (ends_authority c) as (λ b. (b ≡ ends_authority c) → (eqb (length (before_first ends_path (drop (cond (not b) (1 + position_or_len ends_authority text) 0) (c ∷ text)))) 0 || eqb (get_or (before_first ends_path (drop (cond (not b) (1 + position_or_len ends_authority text) 0) (c ∷ text))) 0 0) 47) ≡ true) [
       | true ↦ λ e. stops (sym e)
-      | false ↦ λ e. goes_on (position_or_len ends_authority text) (path_behind_authority text)
+      | false ↦ λ e. goes_on (position_or_len ends_authority text) (path_after_authority text)
     ] refl
   where
     stops : ends_authority c ≡ true → (eqb (length (before_first ends_path (c ∷ text))) 0 || eqb (get_or (before_first ends_path (c ∷ text)) 0 0) 47) ≡ true
@@ -112,13 +112,13 @@ path_of_rest s rest = elim (cases_Bool (begins_with_slashes rest)) [ inl slashes
     two_more : (k : ℕ) → drop (k + 2) rest ≡ drop k (drop 2 rest)
     two_more k = let e : k + 2 ≡ 2 + k = omega arith in rw e (sym (drop-drop k 2 rest))
 
-    behind_two : (s : Option (List ℕ)) → is_path_after s (Some (before_first ends_authority (drop 2 rest))) (before_first ends_path (drop (length (before_first ends_authority (drop 2 rest)) + 2) rest)) ≡ true
-    behind_two s =
+    after_two : (s : Option (List ℕ)) → is_path_after s (Some (before_first ends_authority (drop 2 rest))) (before_first ends_path (drop (length (before_first ends_authority (drop 2 rest)) + 2) rest)) ≡ true
+    after_two s =
         let same : drop (length (before_first ends_authority (drop 2 rest)) + 2) rest ≡ drop (position_or_len ends_authority (drop 2 rest)) (drop 2 rest) = rw length-prefix_len (two_more (position_or_len ends_authority (drop 2 rest))) in
-        rw same (path_behind_authority (drop 2 rest))
+        rw same (path_after_authority (drop 2 rest))
 
     with_authority : (s : Option (List ℕ)) → begins_with_slashes rest ≡ true → is_path_after s (authority_in_front rest) (before_first ends_path (text_after (option_map length (authority_in_front rest)) 2 rest)) ≡ (is_some s || (begins_with_slashes rest || not (list_any (λ c. eqb c 58) (before_first (λ c. eqb c 47) (before_first ends_path rest)))))
-    with_authority s slashes = rw slashes (behind_two s ∙ sym (or_true (is_some s)))
+    with_authority s slashes = rw slashes (after_two s ∙ sym (or_true (is_some s)))
 
     without : (s : Option (List ℕ)) → begins_with_slashes rest ≡ false → is_path_after s (authority_in_front rest) (before_first ends_path (text_after (option_map length (authority_in_front rest)) 2 rest)) ≡ (is_some s || (begins_with_slashes rest || not (list_any (λ c. eqb c 58) (before_first (λ c. eqb c 47) (before_first ends_path rest)))))
     without None no_slashes = rw (no_slashes, slashes_in_front (position_or_len ends_path rest) rest no_slashes) refl

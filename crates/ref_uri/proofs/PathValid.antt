@@ -6,7 +6,7 @@ use Rattle.std.proofs.lemmas.List.{reverse-append, length-append, get_or_at, tak
 use Rattle.std.proofs.lemmas.List.Folds.{list_all-append}
 use Rattle.ref_uri.specs.Characters.{has_whole_triples, is_path_character}
 use Rattle.ref_uri.specs.Components.{is_path, begins_with_slashes}
-use Rattle.ref_uri.specs.DotSegments.{segments, behind_slashes, joined_segments, is_dot_dot, is_dot_segment, first_after, kept_after, remaining_segments, ends_in_dots, without_dots, remove_dot_segments}
+use Rattle.ref_uri.specs.DotSegments.{segments, after_slashes, joined_segments, is_dot_dot, is_dot_segment, first_after, kept_after, remaining_segments, ends_in_dots, without_dots, remove_dot_segments}
 use Rattle.ref_uri.specs.Normal.{guarded_path}
 use Rattle.ref_uri.proofs.EncodedLemmas.{encoded-append}
 use Rattle.ref_uri.proofs.SegmentLemmas.{segments-slash, segments_are_whole, segments_pass}
@@ -41,13 +41,13 @@ each_drop P (suc n) (x ∷ xs) h = each_drop P n xs h.1
 pub path-append : (p q : List ℕ) → is_path p ≡ true → is_path q ≡ true → is_path (p ++ q) ≡ true
 path-append p q h k = encoded-append is_path_character p q h k
 
-slashes_are_path : (parts : List (List ℕ)) → AllByRecursion (λ s. is_path s ≡ true) parts → is_path (behind_slashes parts) ≡ true
+slashes_are_path : (parts : List (List ℕ)) → AllByRecursion (λ s. is_path s ≡ true) parts → is_path (after_slashes parts) ≡ true
 slashes_are_path [] h = refl
-slashes_are_path (s ∷ parts) h = path-append (47 ∷ []) (s ++ behind_slashes parts) refl (path-append s (behind_slashes parts) h.0 (slashes_are_path parts h.1))
+slashes_are_path (s ∷ parts) h = path-append (47 ∷ []) (s ++ after_slashes parts) refl (path-append s (after_slashes parts) h.0 (slashes_are_path parts h.1))
 
 joined_is_path : (parts : List (List ℕ)) → AllByRecursion (λ s. is_path s ≡ true) parts → is_path (joined_segments parts) ≡ true
 joined_is_path [] h = refl
-joined_is_path (first ∷ rest) h = path-append first (behind_slashes rest) h.0 (slashes_are_path rest h.1)
+joined_is_path (first ∷ rest) h = path-append first (after_slashes rest) h.0 (slashes_are_path rest h.1)
 
 segments_are_paths : (path : List ℕ) → is_path path ≡ true → AllByRecursion (λ s. is_path s ≡ true) (segments path)
 segments_are_paths path h =
@@ -97,9 +97,9 @@ removed_starts (c ∷ path) h =
     or_right : StartsPath (c ∷ path) → eqb c 47 ≡ true
     or_right k = elim (or_cases (eqb (length (c ∷ path)) 0) (eqb c 47) k) [ inl empty ↦ absurd (omega (arith, eqb-true (length (c ∷ path)) 0 empty)) | inr e ↦ e ]
 
-    slashes_start : (parts : List (List ℕ)) → StartsPath (behind_slashes parts)
+    slashes_start : (parts : List (List ℕ)) → StartsPath (after_slashes parts)
     slashes_start [] = refl
-    slashes_start (s ∷ parts) = or_true (eqb (length (behind_slashes (s ∷ parts))) 0)
+    slashes_start (s ∷ parts) = or_true (eqb (length (after_slashes (s ∷ parts))) 0)
       where
         or_true : (b : Bool) → (b || true) ≡ true
         or_true true = refl
@@ -165,9 +165,9 @@ through_starts text more h some = by_slash text h some (last_slash text)
     first_is : (c : ℕ) (t : List ℕ) → StartsPath (c ∷ t) → eqb c 47 ≡ true
     first_is c t k = elim (or_cases (eqb (length (c ∷ t)) 0) (eqb c 47) k) [ inl empty ↦ absurd (omega (arith, eqb-true (length (c ∷ t)) 0 empty)) | inr e ↦ e ]
 
-    behind_front : (front more : List ℕ) → StartsPath (front ++ 47 ∷ []) → StartsPath ((front ++ 47 ∷ []) ++ more)
-    behind_front [] more k = or_true (eqb (length (47 ∷ more)) 0)
-    behind_front (c ∷ front) more k = rw (first_is c (front ++ 47 ∷ []) k) (or_true (eqb (length (c ∷ ((front ++ 47 ∷ []) ++ more))) 0))
+    after_front : (front more : List ℕ) → StartsPath (front ++ 47 ∷ []) → StartsPath ((front ++ 47 ∷ []) ++ more)
+    after_front [] more k = or_true (eqb (length (47 ∷ more)) 0)
+    after_front (c ∷ front) more k = rw (first_is c (front ++ 47 ∷ []) k) (or_true (eqb (length (c ∷ ((front ++ 47 ∷ []) ++ more))) 0))
 
     front_starts : (front rest : List ℕ) → StartsPath (front ++ 47 ∷ rest) → StartsPath (front ++ 47 ∷ [])
     front_starts [] rest k = or_true (eqb (length {A = ℕ} (47 ∷ [])) 0)
@@ -177,4 +177,4 @@ through_starts text more h some = by_slash text h some (last_slash text)
     by_slash [] k some at = absurd (false≢true (sym some))
     by_slash (c ∷ t) k some (inl none) = absurd (false≢true (sym (ap not (first_is c t k)) ∙ (and_parts (not (eqb c 47)) (list_all (λ x. not (eqb x 47)) t) none).0))
     by_slash (c ∷ t) k some (inr at) =
-        subst (λ (p : List ℕ). StartsPath (p ++ more)) (sym (through_is (c ∷ t) at)) (behind_front at.front more (front_starts at.front at.rest (subst StartsPath at.shape k)))
+        subst (λ (p : List ℕ). StartsPath (p ++ more)) (sym (through_is (c ∷ t) at)) (after_front at.front more (front_starts at.front at.rest (subst StartsPath at.shape k)))

@@ -7,7 +7,7 @@ use Rattle.std.proofs.lemmas.Bool.Decides.{nat_tests}
 use Rattle.std.proofs.lemmas.List.{get_or-append-add, length-append, length-map, drop-map, map-append, reverse-append}
 use Rattle.std.proofs.lemmas.Slice.Eq.{bytes_eq-Decides}
 use Rattle.ref_uri.specs.Characters.{has_whole_triples, is_unreserved}
-use Rattle.ref_uri.specs.DotSegments.{segments, behind_slashes, joined_segments, is_dot, is_dot_dot, is_dot_segment, first_after, kept_after, remaining_segments, ends_in_dots, without_dots, remove_dot_segments}
+use Rattle.ref_uri.specs.DotSegments.{segments, after_slashes, joined_segments, is_dot, is_dot_dot, is_dot_segment, first_after, kept_after, remaining_segments, ends_in_dots, without_dots, remove_dot_segments}
 use Rattle.ref_uri.specs.Normal.{hex_value, normal_triple, normal_text}
 use Rattle.ref_uri.specs.inner.Removal.{AreNames, IsNoEncodedDot}
 use Rattle.ref_uri.specs.inner.Target.{LacksEncodedDot}
@@ -20,8 +20,8 @@ use Rattle.ref_uri.proofs.PathValid.{each_drop, each_without_dots}
 use Rattle.ref_uri.proofs.WrittenLemmas.{written_segments}
 
 -- where a triple of a letter is after a text
-dot_behind : (letter : ℕ) (text before after : List ℕ) → text ≡ before ++ 37 ∷ 50 ∷ letter ∷ after → (length before + 2 < length text) × (get_or text (length before) 0 ≡ 37) × (get_or text (length before + 1) 0 ≡ 50) × (get_or text (length before + 2) 0 ≡ letter)
-dot_behind letter text before after e =
+dot_after : (letter : ℕ) (text before after : List ℕ) → text ≡ before ++ 37 ∷ 50 ∷ letter ∷ after → (length before + 2 < length text) × (get_or text (length before) 0 ≡ 37) × (get_or text (length before + 1) 0 ≡ 50) × (get_or text (length before + 2) 0 ≡ letter)
+dot_after letter text before after e =
     let at : (j : ℕ) → get_or text (length before + j) 0 ≡ get_or (37 ∷ 50 ∷ letter ∷ after) j 0 = λ j. ap (λ t. get_or t (length before + j) 0) e ∙ get_or-append-add before (37 ∷ 50 ∷ letter ∷ after) j 0 in
     let front : length before ≡ length before + 0 = omega arith in (
       omega (arith, ap length e, length-append before (37 ∷ 50 ∷ letter ∷ after)),
@@ -33,8 +33,8 @@ dot_behind letter text before after e =
 -- a text at none of whose places a triple of `.` begins
 pub lacks_encoded_dot : (text : List ℕ) → ((k : ℕ) → k + 2 < length text → IsNoEncodedDot text k) → LacksEncodedDot text
 lacks_encoded_dot text none before after = (
-  λ e. let dot = dot_behind 101 text before after e in (none (length before) dot.0 dot.1 dot.2).0 dot.3,
-  λ e. let dot = dot_behind 69 text before after e in (none (length before) dot.0 dot.1 dot.2).1 dot.3,
+  λ e. let dot = dot_after 101 text before after e in (none (length before) dot.0 dot.1 dot.2).0 dot.3,
+  λ e. let dot = dot_after 69 text before after e in (none (length before) dot.0 dot.1 dot.2).1 dot.3,
 )
 
 -- dots and nothing else
@@ -48,8 +48,8 @@ Stays text = (word : List ℕ) → AllDots word → normal_text text ≡ word �
 same_front : (c d : ℕ) (s t : List ℕ) → c ∷ s ≡ d ∷ t → c ≡ d
 same_front c d s t e = cc
 
-same_behind : (c d : ℕ) (s t : List ℕ) → c ∷ s ≡ d ∷ t → s ≡ t
-same_behind c d s t e = cc
+same_after : (c d : ℕ) (s t : List ℕ) → c ∷ s ≡ d ∷ t → s ≡ t
+same_after c d s t e = cc
 
 some_is_none : (c : ℕ) (s : List ℕ) → c ∷ s ≡ [] → ⊥
 some_is_none c s e = cc
@@ -64,7 +64,7 @@ stays_character c s ne rest [] all e = absurd (some_is_none c (normal_text s) (s
 stays_character c s ne rest (d ∷ word) all e =
     let front : c ∷ normal_text s ≡ d ∷ word = sym (normal_character (λ x. x) c s ne) ∙ e in
     ap (λ x. x ∷ s) (same_front c d (normal_text s) word front)
-    ∙ ap (λ t. d ∷ t) (rest word (and_parts (eqb d 46) (list_all (λ x. eqb x 46) word) all).1 (same_behind c d (normal_text s) word front))
+    ∙ ap (λ t. d ∷ t) (rest word (and_parts (eqb d 46) (list_all (λ x. eqb x 46) word) all).1 (same_after c d (normal_text s) word front))
 
 stays_triple : (high low : ℕ) (s : List ℕ) → is_ascii_hexdigit high ≡ true → is_ascii_hexdigit low ≡ true → 16 * hex_value high + hex_value low ≢ 46 → Stays (37 ∷ high ∷ low ∷ s)
 unfolding Stays
@@ -204,15 +204,15 @@ without-map (first ∷ rest) all =
     root false = refl
 
 -- what segments of whole triples join to
-slashes-map : (parts : List (List ℕ)) → AllByRecursion (λ s. has_whole_triples s ≡ true) parts → behind_slashes (map normal_text parts) ≡ normal_text (behind_slashes parts)
+slashes-map : (parts : List (List ℕ)) → AllByRecursion (λ s. has_whole_triples s ≡ true) parts → after_slashes (map normal_text parts) ≡ normal_text (after_slashes parts)
 slashes-map [] all = sym (normal_none (λ c. c))
 slashes-map (s ∷ parts) all =
-    ap (λ t. 47 ∷ (normal_text s ++ t)) (slashes-map parts all.1) ∙ ap (λ t. 47 ∷ t) (sym (normal-append s (behind_slashes parts) all.0))
-    ∙ sym (normal_character (λ c. c) 47 (s ++ behind_slashes parts) (λ e. absurd (omega (arith, e))))
+    ap (λ t. 47 ∷ (normal_text s ++ t)) (slashes-map parts all.1) ∙ ap (λ t. 47 ∷ t) (sym (normal-append s (after_slashes parts) all.0))
+    ∙ sym (normal_character (λ c. c) 47 (s ++ after_slashes parts) (λ e. absurd (omega (arith, e))))
 
 joined-map : (parts : List (List ℕ)) → AllByRecursion (λ s. has_whole_triples s ≡ true) parts → joined_segments (map normal_text parts) ≡ normal_text (joined_segments parts)
 joined-map [] all = sym (normal_none (λ c. c))
-joined-map (first ∷ rest) all = ap (λ t. normal_text first ++ t) (slashes-map rest all.1) ∙ sym (normal-append first (behind_slashes rest) all.0)
+joined-map (first ∷ rest) all = ap (λ t. normal_text first ++ t) (slashes-map rest all.1) ∙ sym (normal-append first (after_slashes rest) all.0)
 
 -- the normal form of such a path, without its dot segments
 pub removed_normal : (path : List ℕ) → has_whole_triples path ≡ true → AllByRecursion Stays (segments path) → remove_dot_segments (normal_text path) ≡ normal_text (remove_dot_segments path)

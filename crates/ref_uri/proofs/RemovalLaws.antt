@@ -5,7 +5,7 @@ use Rattle.std.proofs.lemmas.Bool.{cases_Bool, false≢true, ne_eqb}
 use Rattle.std.proofs.lemmas.List.{map-append, reverse-append, take_at, length-append, get_or_at, get_or-append-add}
 use Rattle.std.proofs.lemmas.Slice.Eq.{bytes_eq-Decides}
 use Rattle.std.proofs.lemmas.List.Sums.{AllPass-from_list_all}
-use Rattle.ref_uri.specs.DotSegments.{segments, behind_slashes, joined_segments, is_dot, is_dot_dot, is_dot_segment, kept_after, first_after, remaining_segments, ends_in_dots, without_dots, remove_dot_segments}
+use Rattle.ref_uri.specs.DotSegments.{segments, after_slashes, joined_segments, is_dot, is_dot_dot, is_dot_segment, kept_after, first_after, remaining_segments, ends_in_dots, without_dots, remove_dot_segments}
 use Rattle.ref_uri.specs.inner.Removal.{segment_of, next_written, next_progress, path_then, progress_then, path_after, progress_after, end_of, ended_path}
 use Rattle.ref_uri.specs.Characters.{has_whole_triples}
 use Rattle.ref_uri.specs.inner.Written.{written_text}
@@ -28,12 +28,12 @@ no_slash_at text h i lt e =
     false≢true (ap (λ c. not (eqb c 47)) (sym e) ∙ passes)
 
 -- one segment more at the end
-behind_slashes-push : (xs : List (List ℕ)) (s : List ℕ) → behind_slashes (xs ++ s ∷ []) ≡ behind_slashes xs ++ 47 ∷ s
-behind_slashes-push [] s = ap (λ t. 47 ∷ t) (append-nil s)
-behind_slashes-push (x ∷ xs) s = ap (λ t. 47 ∷ t) (ap (λ t. x ++ t) (behind_slashes-push xs s) ∙ sym (append_assoc x (behind_slashes xs) (47 ∷ s)))
+after_slashes-push : (xs : List (List ℕ)) (s : List ℕ) → after_slashes (xs ++ s ∷ []) ≡ after_slashes xs ++ 47 ∷ s
+after_slashes-push [] s = ap (λ t. 47 ∷ t) (append-nil s)
+after_slashes-push (x ∷ xs) s = ap (λ t. 47 ∷ t) (ap (λ t. x ++ t) (after_slashes-push xs s) ∙ sym (append_assoc x (after_slashes xs) (47 ∷ s)))
 
 joined-push : (first : List ℕ) (xs : List (List ℕ)) (s : List ℕ) → joined_segments (first ∷ (xs ++ s ∷ [])) ≡ joined_segments (first ∷ xs) ++ 47 ∷ s
-joined-push first xs s = ap (λ t. first ++ t) (behind_slashes-push xs s) ∙ sym (append_assoc first (behind_slashes xs) (47 ∷ s))
+joined-push first xs s = ap (λ t. first ++ t) (after_slashes-push xs s) ∙ sym (append_assoc first (after_slashes xs) (47 ∷ s))
 
 joined-kept : (first : List ℕ) (kept : List (List ℕ)) (s : List ℕ) → joined_segments (first ∷ reverse (s ∷ kept)) ≡ joined_segments (first ∷ reverse kept) ++ 47 ∷ s
 joined-kept first kept s = ap (λ xs. joined_segments (first ∷ xs)) (reverse-append (s ∷ []) kept) ∙ joined-push first (reverse kept) s
@@ -117,14 +117,14 @@ ends_after-in_dots (s ∷ []) = refl
 ends_after-in_dots (s ∷ next ∷ rest) = ends_after-in_dots (next ∷ rest)
 
 -- all of them after a first one
-behind_first : (ends : Bool) (first : List ℕ) (kept rest : List (List ℕ)) → AllByRecursion HasNoSlash (first ∷ kept) → AllByRecursion HasNoSlash rest → path_after (behind ends) (joined_segments (first ∷ reverse kept)) rest ++ end_of (progress_after (behind ends) rest) ≡ joined_segments (remaining_segments first kept rest ++ cond (ends_after ends rest) ([] ∷ []) [])
+past_first : (ends : Bool) (first : List ℕ) (kept rest : List (List ℕ)) → AllByRecursion HasNoSlash (first ∷ kept) → AllByRecursion HasNoSlash rest → path_after (behind ends) (joined_segments (first ∷ reverse kept)) rest ++ end_of (progress_after (behind ends) rest) ≡ joined_segments (remaining_segments first kept rest ++ cond (ends_after ends rest) ([] ∷ []) [])
 unfolding ends_after
-behind_first true first kept [] plain all = sym (joined-push first (reverse kept) [])
-behind_first false first kept [] plain all = append-nil (joined_segments (first ∷ reverse kept)) ∙ ap joined_segments (sym (append-nil (first ∷ reverse kept)))
-behind_first ends first kept (s ∷ rest) plain all =
+past_first true first kept [] plain all = sym (joined-push first (reverse kept) [])
+past_first false first kept [] plain all = append-nil (joined_segments (first ∷ reverse kept)) ∙ ap joined_segments (sym (append-nil (first ∷ reverse kept)))
+past_first ends first kept (s ∷ rest) plain all =
     ap (λ p. path_after p (path_then (behind ends) (joined_segments (first ∷ reverse kept)) s) rest ++ end_of (progress_after p rest)) (progress-step ends s)
     ∙ ap (λ t. path_after (behind (is_dot_segment s)) t rest ++ end_of (progress_after (behind (is_dot_segment s)) rest)) (path-step ends (joined_segments (first ∷ reverse kept)) s ∙ step first kept s plain)
-    ∙ behind_first (is_dot_segment s) (first_after first kept s) (kept_after kept s) rest (still_plain first kept s plain all.0) all.1
+    ∙ past_first (is_dot_segment s) (first_after first kept s) (kept_after kept s) rest (still_plain first kept s plain all.0) all.1
 
 -- all of them
 from_front : (parts : List (List ℕ)) → AllByRecursion HasNoSlash parts → path_after Front [] parts ++ end_of (progress_after Front parts) ≡ joined_segments (without_dots (drop (prefix_len is_dot_segment parts) parts))
@@ -143,7 +143,7 @@ from_front (s ∷ rest) all = elim (cases_Bool (is_dot s)) [ inl dot ↦ at_dot 
     at_name : is_dot s ≡ false → is_dot_dot s ≡ false → path_after Front [] (s ∷ rest) ++ end_of (progress_after Front (s ∷ rest)) ≡ joined_segments (without_dots (drop (prefix_len is_dot_segment (s ∷ rest)) (s ∷ rest)))
     at_name other name =
         rw (other, name)
-        (ap (λ t. path_after Within t rest ++ end_of (progress_after Within rest)) (sym (append-nil s)) ∙ behind_first false s [] rest (all.0, tt) all.1
+        (ap (λ t. path_after Within t rest ++ end_of (progress_after Within rest)) (sym (append-nil s)) ∙ past_first false s [] rest (all.0, tt) all.1
         ∙ ap (λ b. joined_segments (remaining_segments s [] rest ++ cond b ([] ∷ []) [])) (ends_after-in_dots rest))
 
 -- the path without its dot segments

@@ -54,13 +54,13 @@ plain : (class : Class) (c : ℕ) → allows class c ≡ true → eqb c 37 ≡ f
 plain class c is = false_from_ne_true (eqb c 37) (λ percent. false≢true (sym (disallows_percent class) ∙ ap (allows class) (sym (eqb-true c 37 percent)) ∙ is))
 
 -- A text of the class, and the run after it.
-pub record RunBehind (class : Class) (text : List ℕ) (end : ℕ) : Type 0 where
+pub record RunAfter (class : Class) (text : List ℕ) (end : ℕ) : Type 0 where
   pub within : end ≤ length text
   pub encoded : is_encoded (allows class) (take end text) ≡ true
   pub stops : end < length text → allows class (get_or text end 0) ≡ false
 
-pub run_behind : (class : Class) (text : List ℕ) (i n : ℕ) → i ≤ length text → is_encoded (allows class) (take i text) ≡ true → n ≡ prefix_len (allows class) (drop i text) → RunBehind class text (i + n)
-run_behind class text i n within encoded is =
+pub run_after : (class : Class) (text : List ℕ) (i n : ℕ) → i ≤ length text → is_encoded (allows class) (take i text) ≡ true → n ≡ prefix_len (allows class) (drop i text) → RunAfter class text (i + n)
+run_after class text i n within encoded is =
     let run = drop i text in
     let long = prefix_len-le-length (allows class) run in
     let more : is_encoded (allows class) (take n run) ≡ true =

@@ -18,20 +18,20 @@ abbrev pub Starts : (ℕ → Bool) → List ℕ → Type 0
 Starts p text = (text ≡ []) ⊎ (p (get_or text 0 0) ≡ true)
 
 -- the first that passes is after a front in which none does
-pub first_behind : (p : ℕ → Bool) (front rest : List ℕ) → list_all (λ c. not (p c)) front ≡ true → Starts p rest → position_or_len p (front ++ rest) ≡ length front
-first_behind p [] [] none starts = refl
-first_behind p [] (c ∷ rest) none (inl empty) = cc
-first_behind p [] (c ∷ rest) none (inr passes) = rw passes refl
-first_behind p (c ∷ front) rest none starts =
+pub first_past : (p : ℕ → Bool) (front rest : List ℕ) → list_all (λ c. not (p c)) front ≡ true → Starts p rest → position_or_len p (front ++ rest) ≡ length front
+first_past p [] [] none starts = refl
+first_past p [] (c ∷ rest) none (inl empty) = cc
+first_past p [] (c ∷ rest) none (inr passes) = rw passes refl
+first_past p (c ∷ front) rest none starts =
     let both = and_parts (not (p c)) (list_all (λ x. not (p x)) front) none in
     let one : 1 + length front ≡ suc (length front) = omega arith in
-    rw (both.0, first_behind p front rest both.1 starts) one
+    rw (both.0, first_past p front rest both.1 starts) one
 
-pub before_behind : (p : ℕ → Bool) (front rest : List ℕ) → list_all (λ c. not (p c)) front ≡ true → Starts p rest → before_first p (front ++ rest) ≡ front
-before_behind p front rest none starts = ap (λ n. take n (front ++ rest)) (first_behind p front rest none starts) ∙ take_at front rest (length front) refl
+pub before_after : (p : ℕ → Bool) (front rest : List ℕ) → list_all (λ c. not (p c)) front ≡ true → Starts p rest → before_first p (front ++ rest) ≡ front
+before_after p front rest none starts = ap (λ n. take n (front ++ rest)) (first_past p front rest none starts) ∙ take_at front rest (length front) refl
 
-pub rest_behind : (p : ℕ → Bool) (front rest : List ℕ) → list_all (λ c. not (p c)) front ≡ true → Starts p rest → drop (position_or_len p (front ++ rest)) (front ++ rest) ≡ rest
-rest_behind p front rest none starts = ap (λ n. drop n (front ++ rest)) (first_behind p front rest none starts) ∙ drop_at front rest (length front) refl
+pub rest_after : (p : ℕ → Bool) (front rest : List ℕ) → list_all (λ c. not (p c)) front ≡ true → Starts p rest → drop (position_or_len p (front ++ rest)) (front ++ rest) ≡ rest
+rest_after p front rest none starts = ap (λ n. drop n (front ++ rest)) (first_past p front rest none starts) ∙ drop_at front rest (length front) refl
 
 -- a query and a fragment begin with what ends a path, a fragment with what ends a query
 fragment_starts : (p : ℕ → Bool) (f : Option (List ℕ)) → p 35 ≡ true → Starts p (framed_component (codes "#") f [])
@@ -56,11 +56,11 @@ query_found None None h = refl
 query_found None (Some f) h = refl
 query_found (Some q) f h =
     ap (λ t. Some (before_first ends_query (t ++ framed_component (codes "#") f []))) (append-nil q)
-    ∙ ap (λ t. Some t) (before_behind ends_query q (framed_component (codes "#") f []) (encoded_apart is_query_character ends_query (λ c k. grind (arith, nat_tests)) q h) (fragment_starts ends_query f refl))
+    ∙ ap (λ t. Some t) (before_after ends_query q (framed_component (codes "#") f []) (encoded_apart is_query_character ends_query (λ c k. grind (arith, nat_tests)) q h) (fragment_starts ends_query f refl))
 
-behind_query : (q f : Option (List ℕ)) → text_after (option_map length q) 1 (framed_component (codes "?") q [] ++ framed_component (codes "#") f []) ≡ framed_component (codes "#") f []
-behind_query None f = refl
-behind_query (Some q) f =
+past_query : (q f : Option (List ℕ)) → text_after (option_map length q) 1 (framed_component (codes "?") q [] ++ framed_component (codes "#") f []) ≡ framed_component (codes "#") f []
+past_query None f = refl
+past_query (Some q) f =
     let one : length q + 1 ≡ suc (length q) = omega arith in
     rw (one, append-nil q) (drop_at q (framed_component (codes "#") f []) (length q) refl)
 
@@ -69,11 +69,11 @@ authority_found : (a : Option (List ℕ)) (rest : List ℕ) → if_there is_auth
 authority_found None rest h starts no_slashes = rw (no_slashes refl) refl
 authority_found (Some a) rest h starts no_slashes =
     ap (λ t. Some (before_first ends_authority (t ++ rest))) (append-nil a)
-    ∙ ap (λ t. Some t) (before_behind ends_authority a rest (list_all-wider is_authority_character (λ c. not (ends_authority c)) (λ c k. grind (arith, nat_tests)) a (authority_characters a h)) (starts a refl))
+    ∙ ap (λ t. Some t) (before_after ends_authority a rest (list_all-wider is_authority_character (λ c. not (ends_authority c)) (λ c k. grind (arith, nat_tests)) a (authority_characters a h)) (starts a refl))
 
-behind_authority : (a : Option (List ℕ)) (rest : List ℕ) → text_after (option_map length a) 2 (framed_component (codes "//") a [] ++ rest) ≡ rest
-behind_authority None rest = refl
-behind_authority (Some a) rest =
+past_authority : (a : Option (List ℕ)) (rest : List ℕ) → text_after (option_map length a) 2 (framed_component (codes "//") a [] ++ rest) ≡ rest
+past_authority None rest = refl
+past_authority (Some a) rest =
     let two : length a + 2 ≡ suc (suc (length a)) = omega arith in
     rw (two, append-nil a) (drop_at a rest (length a) refl)
 
@@ -116,15 +116,15 @@ scheme_found (Some (x ∷ name)) rest h no_colon =
     let first : not (ends_scheme x) ≡ true = grind (arith, nat_tests) in
     let apart : list_all (λ c. not (ends_scheme c)) (x ∷ name) ≡ true = and_from (not (ends_scheme x)) (list_all (λ c. not (ends_scheme c)) name) first (list_all-wider is_scheme_character (λ c. not (ends_scheme c)) (λ c k. grind (arith, nat_tests)) name both.1) in
     let shape : (x ∷ name) ++ (58 ∷ []) ++ rest ≡ (x ∷ name) ++ (58 ∷ rest) = append_assoc (x ∷ name) (58 ∷ []) rest in
-    ap scheme shape ∙ scheme_of_name ((x ∷ name) ++ (58 ∷ rest)) (x ∷ name) (before_behind ends_scheme (x ∷ name) (58 ∷ rest) apart (inr refl)) (lt-ltb 0 (length (x ∷ name)) (omega arith)) (get_or_seam (x ∷ name) 58 rest)
+    ap scheme shape ∙ scheme_of_name ((x ∷ name) ++ (58 ∷ rest)) (x ∷ name) (before_after ends_scheme (x ∷ name) (58 ∷ rest) apart (inr refl)) (lt-ltb 0 (length (x ∷ name)) (omega arith)) (get_or_seam (x ∷ name) 58 rest)
   where
     get_or_seam : (a : List ℕ) (c : ℕ) (b : List ℕ) → get_or (a ++ (c ∷ b)) (length a) 0 ≡ c
     get_or_seam [] c b = refl
     get_or_seam (y ∷ a) c b = get_or_seam a c b
 
-behind_scheme : (s : Option (List ℕ)) (rest : List ℕ) → text_after (option_map length s) 1 (framed_component [] s (codes ":") ++ rest) ≡ rest
-behind_scheme None rest = refl
-behind_scheme (Some s) rest =
+past_scheme : (s : Option (List ℕ)) (rest : List ℕ) → text_after (option_map length s) 1 (framed_component [] s (codes ":") ++ rest) ≡ rest
+past_scheme None rest = refl
+past_scheme (Some s) rest =
     let one : length s + 1 ≡ suc (length s) = omega arith in
     rw one (ap (λ t. drop (suc (length s)) t) (append_assoc s (58 ∷ []) rest) ∙ past s)
   where
@@ -185,20 +185,20 @@ tested c h =
     record { scheme_test = two.0; authority_test = two.1; path_test = three.1; query_test = four.1; fragment_test = five.1; place_test = six.1 }
 
 -- what follows a scheme, an authority and a path
-abbrev behind_path_of : Components → List ℕ
-behind_path_of c = framed_component (codes "?") c.query [] ++ framed_component (codes "#") c.fragment []
+abbrev after_path_of : Components → List ℕ
+after_path_of c = framed_component (codes "?") c.query [] ++ framed_component (codes "#") c.fragment []
 
-abbrev behind_scheme_of : Components → List ℕ
-behind_scheme_of c = framed_component (codes "//") c.authority [] ++ (c.path ++ behind_path_of c)
+abbrev after_scheme_of : Components → List ℕ
+after_scheme_of c = framed_component (codes "//") c.authority [] ++ (c.path ++ after_path_of c)
 
 path_apart : (p : List ℕ) → is_path p ≡ true → list_all (λ c. not (ends_path c)) p ≡ true
 path_apart p h = encoded_apart is_path_character ends_path (λ c k. grind (arith, nat_tests)) p h
 
 -- after an authority the rest begins with what ends it, and without one it doesn't begin with `//`
-rest_starts : (c : Components) → Tested c → (x : List ℕ) → c.authority ≡ Some x → Starts ends_authority (c.path ++ behind_path_of c)
+rest_starts : (c : Components) → Tested c → (x : List ℕ) → c.authority ≡ Some x → Starts ends_authority (c.path ++ after_path_of c)
 rest_starts c t x is = path_starts c.path c.query c.fragment (ap (λ a. is_path_after c.scheme a c.path) (sym is) ∙ t.place_test)
 
-rest_has_no_slashes : (c : Components) → Tested c → c.authority ≡ None → begins_with_slashes (c.path ++ behind_path_of c) ≡ false
+rest_has_no_slashes : (c : Components) → Tested c → c.authority ≡ None → begins_with_slashes (c.path ++ after_path_of c) ≡ false
 rest_has_no_slashes c t is = no_slashes_in c.path c.query c.fragment (from_place c.scheme (ap (λ a. is_path_after c.scheme a c.path) (sym is) ∙ t.place_test))
   where
     from_place : (s : Option (List ℕ)) → is_path_after s None c.path ≡ true → begins_with_slashes c.path ≡ false
@@ -206,40 +206,40 @@ rest_has_no_slashes c t is = no_slashes_in c.path c.query c.fragment (from_place
     from_place (Some s) h = not-true (begins_with_slashes c.path) h
 
 -- without a scheme the first of `:/?#` is no `:`
-no_colon_first : (c : Components) → Tested c → c.scheme ≡ None → eqb (get_or (behind_scheme_of c) (position_or_len ends_scheme (behind_scheme_of c)) 0) 58 ≡ false
+no_colon_first : (c : Components) → Tested c → c.scheme ≡ None → eqb (get_or (after_scheme_of c) (position_or_len ends_scheme (after_scheme_of c)) 0) 58 ≡ false
 no_colon_first c t none = by_authority c.authority (ap (λ s. is_path_after s c.authority c.path) (sym none) ∙ t.place_test)
   where
-    by_authority : (a : Option (List ℕ)) → is_path_after None a c.path ≡ true → eqb (get_or (framed_component (codes "//") a [] ++ (c.path ++ behind_path_of c)) (position_or_len ends_scheme (framed_component (codes "//") a [] ++ (c.path ++ behind_path_of c))) 0) 58 ≡ false
-    by_authority (Some a) h = slashes_come_first (framed_component (codes "//") (Some a) [] ++ (c.path ++ behind_path_of c)) refl
+    by_authority : (a : Option (List ℕ)) → is_path_after None a c.path ≡ true → eqb (get_or (framed_component (codes "//") a [] ++ (c.path ++ after_path_of c)) (position_or_len ends_scheme (framed_component (codes "//") a [] ++ (c.path ++ after_path_of c))) 0) 58 ≡ false
+    by_authority (Some a) h = slashes_come_first (framed_component (codes "//") (Some a) [] ++ (c.path ++ after_path_of c)) refl
     by_authority None h =
         let apart = not-true (list_any (λ x. eqb x 58) (before_first (λ x. eqb x 47) c.path)) (and_parts (not (begins_with_slashes c.path)) (not (list_any (λ x. eqb x 58) (before_first (λ x. eqb x 47) c.path))) h).1 in
-        sym (colon_in_first_segment (c.path ++ behind_path_of c))
-        ∙ ap (λ p. list_any (λ x. eqb x 58) (before_first (λ x. eqb x 47) p)) (before_behind ends_path c.path (behind_path_of c) (path_apart c.path t.path_test) (query_starts ends_path c.query c.fragment refl refl))
+        sym (colon_in_first_segment (c.path ++ after_path_of c))
+        ∙ ap (λ p. list_any (λ x. eqb x 58) (before_first (λ x. eqb x 47) p)) (before_after ends_path c.path (after_path_of c) (path_apart c.path t.path_test) (query_starts ends_path c.query c.fragment refl refl))
         ∙ apart
 
 abbrev the_components : Option (List ℕ) → Option (List ℕ) → List ℕ → Option (List ℕ) → Option (List ℕ) → Components
 the_components s a p q f = record { scheme = s; authority = a; path = p; query = q; fragment = f }
 
-regrouped : (c : Components) → text_of c ≡ framed_component [] c.scheme (codes ":") ++ behind_scheme_of c
+regrouped : (c : Components) → text_of c ≡ framed_component [] c.scheme (codes ":") ++ after_scheme_of c
 regrouped c = regroup (framed_component [] c.scheme (codes ":")) (framed_component (codes "//") c.authority []) c.path (framed_component (codes "?") c.query []) (framed_component (codes "#") c.fragment [])
 
 -- components that hold what they may are those of their text
 pub components-text_of : (c : Components) → are_components c ≡ true → components (text_of c) ≡ c
 components-text_of c h =
     let t = tested c h in
-    let text = framed_component [] c.scheme (codes ":") ++ behind_scheme_of c in
-    let rest = c.path ++ behind_path_of c in
+    let text = framed_component [] c.scheme (codes ":") ++ after_scheme_of c in
+    let rest = c.path ++ after_path_of c in
     let last = framed_component (codes "#") c.fragment [] in
-    let s : scheme text ≡ c.scheme = scheme_found c.scheme (behind_scheme_of c) t.scheme_test (no_colon_first c t) in
-    let one : after_scheme text ≡ behind_scheme_of c = after_scheme-step text c.scheme s ∙ behind_scheme c.scheme (behind_scheme_of c) in
-    let a : authority text ≡ c.authority = authority-step text (behind_scheme_of c) one ∙ authority_found c.authority rest t.authority_test (rest_starts c t) (rest_has_no_slashes c t) in
-    let two : after_authority text ≡ rest = after_authority-step text (behind_scheme_of c) c.authority one a ∙ behind_authority c.authority rest in
+    let s : scheme text ≡ c.scheme = scheme_found c.scheme (after_scheme_of c) t.scheme_test (no_colon_first c t) in
+    let one : after_scheme text ≡ after_scheme_of c = after_scheme-step text c.scheme s ∙ past_scheme c.scheme (after_scheme_of c) in
+    let a : authority text ≡ c.authority = authority-step text (after_scheme_of c) one ∙ authority_found c.authority rest t.authority_test (rest_starts c t) (rest_has_no_slashes c t) in
+    let two : after_authority text ≡ rest = after_authority-step text (after_scheme_of c) c.authority one a ∙ past_authority c.authority rest in
     let apart = path_apart c.path t.path_test in
     let starts = query_starts ends_path c.query c.fragment refl refl in
-    let p : path text ≡ c.path = path-step text rest two ∙ before_behind ends_path c.path (behind_path_of c) apart starts in
-    let three : after_path text ≡ behind_path_of c = after_path-step text rest two ∙ rest_behind ends_path c.path (behind_path_of c) apart starts in
-    let q : query text ≡ c.query = query-step text (behind_path_of c) three ∙ query_found c.query c.fragment t.query_test in
-    let four : after_query text ≡ last = after_query-step text (behind_path_of c) c.query three q ∙ behind_query c.query c.fragment in
+    let p : path text ≡ c.path = path-step text rest two ∙ before_after ends_path c.path (after_path_of c) apart starts in
+    let three : after_path text ≡ after_path_of c = after_path-step text rest two ∙ rest_after ends_path c.path (after_path_of c) apart starts in
+    let q : query text ≡ c.query = query-step text (after_path_of c) three ∙ query_found c.query c.fragment t.query_test in
+    let four : after_query text ≡ last = after_query-step text (after_path_of c) c.query three q ∙ past_query c.query c.fragment in
     let f : fragment text ≡ c.fragment = fragment-step text last four ∙ fragment_found c.fragment in
     ap components (regrouped c)
     ∙ ap (λ x. the_components x (authority text) (path text) (query text) (fragment text)) s

@@ -15,7 +15,7 @@ use Rattle.ref_uri.proofs.EncodedLemmas.{any_is_found, passes_in_front, not_enco
 use Rattle.ref_uri.proofs.AuthorityLemmas.{is_authority-userinfo}
 use Rattle.ref_uri.proofs.AuthorityCharacters.{is_host_character, host_and_port_characters}
 use Rattle.ref_uri.proofs.ScanLemmas.{before_first-drop}
-use Rattle.ref_uri.proofs.HostLemmas.{encoded_inside, part_behind}
+use Rattle.ref_uri.proofs.HostLemmas.{encoded_inside, part_past}
 
 no_at : (a : List ℕ) → list_all is_host_character a ≡ true → list_any (λ x. eqb x 64) a ≡ false
 no_at [] h = refl
@@ -106,4 +106,4 @@ userinfo_taken t u lt h mark =
     userinfo_is_no_at c is = grind (arith, nat_tests)
 
 pub first_stays : (t : List ℕ) → get_or t 0 0 ≡ 91 → get_or (before_first ends_authority t) 0 0 ≡ 91
-first_stays t mark = ap (λ l. get_or l 0 0) (part_behind t mark)
+first_stays t mark = ap (λ l. get_or l 0 0) (part_past t mark)

@@ -8,14 +8,14 @@ abbrev pub segments : List ℕ → List (List ℕ)
 segments path = slice_split (λ c. c == slash) path
 
 -- segments, each after a slash
-abbrev pub behind_slashes : List (List ℕ) → List ℕ
-behind_slashes [] = []
-behind_slashes (segment ∷ rest) = slash ∷ (segment ++ behind_slashes rest)
+abbrev pub after_slashes : List (List ℕ) → List ℕ
+after_slashes [] = []
+after_slashes (segment ∷ rest) = slash ∷ (segment ++ after_slashes rest)
 
 -- segments with a slash between
 abbrev pub joined_segments : List (List ℕ) → List ℕ
 joined_segments [] = []
-joined_segments (first ∷ rest) = first ++ behind_slashes rest
+joined_segments (first ∷ rest) = first ++ after_slashes rest
 
 -- the segment `.`
 abbrev pub is_dot : List ℕ → Bool

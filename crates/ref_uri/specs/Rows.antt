@@ -7,7 +7,7 @@ use Rattle.ref_uri.specs.Characters.{is_unreserved, is_sub_delim, is_scheme_char
 use Rattle.ref_uri.specs.Authority.{part_before, part_after, userinfo, host_and_port, host_len, host, port_part, is_address_character, is_address, is_version_and_address, is_future_address, is_address_and_bracket, is_bracketed, is_host, is_port_part, is_host_and_port, is_authority}
 use Rattle.ref_uri.specs.Components.{framed_component, text_of, ends_scheme, ends_authority, ends_path, ends_query, text_after, after_scheme, begins_with_slashes, authority_in_front, after_authority, after_path, query_in_front, after_query, fragment_in_front, components, is_scheme, is_path, is_query, if_there, is_path_after, are_components}
 use Rattle.ref_uri.specs.Reference.{is_uri, IsTextOfComponents, with_fragment}
-use Rattle.ref_uri.specs.DotSegments.{segments, behind_slashes, joined_segments, is_dot, is_dot_dot, is_dot_segment, kept_after, first_after, remaining_segments, ends_in_dots, without_dots}
+use Rattle.ref_uri.specs.DotSegments.{segments, after_slashes, joined_segments, is_dot, is_dot_dot, is_dot_segment, kept_after, first_after, remaining_segments, ends_in_dots, without_dots}
 use Rattle.ref_uri.specs.Normal.{hex_value, normal_triple, normal_encoded, normal_text, normal_host, normal_port_part, normal_authority, normal_path, normal_components}
 use Rattle.ref_uri.specs.Resolution.{target_path, target_components, with_guard, resolved_components}
 use Rattle.ref_uri.specs.Targets.{parse_refusal, uri_of, uri_against, uri_part, fragment_part}
@@ -49,7 +49,7 @@ pub record AuthorityRows : Type 0 where
   pub user : userinfo (codes "u:p@[::1]:80") ≡ Some (codes "u:p")
   pub empty_user : userinfo (codes "@h") ≡ Some []
   pub no_user : userinfo (codes "h:80") ≡ None
-  pub behind_user : host_and_port (codes "u:p@[::1]:80") ≡ codes "[::1]:80"
+  pub after_user : host_and_port (codes "u:p@[::1]:80") ≡ codes "[::1]:80"
   pub without_user : host_and_port (codes "example.com:8042") ≡ codes "example.com:8042"
   pub through_bracket : host_len (codes "[::1]:80") ≡ 5
   pub up_to_colon : host_len (codes "example.com:8042") ≡ 11
@@ -64,7 +64,7 @@ pub record AuthorityRows : Type 0 where
   pub empty_address : is_address [] ≡ false
   pub version : is_version_and_address (codes "1.x:") ≡ true
   pub no_version : is_version_and_address (codes "g.x") ≡ false
-  pub nothing_behind_version : is_version_and_address (codes "1.") ≡ false
+  pub nothing_after_version : is_version_and_address (codes "1.") ≡ false
   pub future_address : is_future_address (codes "v1.x") ≡ true
   pub future_upper_case : is_future_address (codes "V1.x") ≡ true
   pub future_without_v : is_future_address (codes "1.x") ≡ false
@@ -116,22 +116,22 @@ pub record ComponentRows : Type 0 where
   pub slash_in_path : ends_path slash ≡ false
   pub hash_ends_query : ends_query hash ≡ true
   pub question_in_query : ends_query question_mark ≡ false
-  pub behind_three : text_after (Some 3) 1 (codes "foo:a") ≡ codes "a"
-  pub behind_none : text_after None 1 (codes "foo") ≡ codes "foo"
-  pub behind_scheme : after_scheme (codes "foo://a/b?c#d") ≡ codes "//a/b?c#d"
-  pub behind_no_scheme : after_scheme (codes "/a") ≡ codes "/a"
+  pub after_three : text_after (Some 3) 1 (codes "foo:a") ≡ codes "a"
+  pub after_none : text_after None 1 (codes "foo") ≡ codes "foo"
+  pub past_scheme : after_scheme (codes "foo://a/b?c#d") ≡ codes "//a/b?c#d"
+  pub after_no_scheme : after_scheme (codes "/a") ≡ codes "/a"
   pub two_slashes : begins_with_slashes (codes "//a") ≡ true
   pub one_slash : begins_with_slashes (codes "/a") ≡ false
   pub authority_there : authority_in_front (codes "//a/b") ≡ Some (codes "a")
   pub authority_absent : authority_in_front (codes "/a") ≡ None
-  pub behind_authority : after_authority (codes "foo://a/b?c#d") ≡ codes "/b?c#d"
-  pub behind_no_authority : after_authority (codes "a/b") ≡ codes "a/b"
-  pub behind_path : after_path (codes "foo://a/b?c#d") ≡ codes "?c#d"
-  pub nothing_behind_path : after_path (codes "a") ≡ []
+  pub past_authority : after_authority (codes "foo://a/b?c#d") ≡ codes "/b?c#d"
+  pub after_no_authority : after_authority (codes "a/b") ≡ codes "a/b"
+  pub past_path : after_path (codes "foo://a/b?c#d") ≡ codes "?c#d"
+  pub nothing_after_path : after_path (codes "a") ≡ []
   pub query_there : query_in_front (codes "?c#d") ≡ Some (codes "c")
   pub query_absent : query_in_front (codes "#d") ≡ None
-  pub behind_query : after_query (codes "foo://a/b?c#d") ≡ codes "#d"
-  pub behind_no_query : after_query (codes "a#d") ≡ codes "#d"
+  pub past_query : after_query (codes "foo://a/b?c#d") ≡ codes "#d"
+  pub after_no_query : after_query (codes "a#d") ≡ codes "#d"
   pub fragment_there : fragment_in_front (codes "#d") ≡ Some (codes "d")
   pub fragment_absent : fragment_in_front [] ≡ None
   pub scheme_of_digits_and_plus : is_scheme (codes "a+1") ≡ true
@@ -142,10 +142,10 @@ pub record ComponentRows : Type 0 where
   pub query_with_hash : is_query (codes "a#b") ≡ false
   pub absent_is_as_it_must : if_there is_scheme None ≡ true
   pub wrong_where_there : if_there is_scheme (Some (codes "1a")) ≡ false
-  pub empty_behind_authority : is_path_after None (Some (codes "a")) [] ≡ true
-  pub rootless_behind_authority : is_path_after None (Some (codes "a")) (codes "b") ≡ false
-  pub colon_behind_scheme : is_path_after (Some (codes "s")) None (codes "a:b") ≡ true
-  pub slashes_behind_scheme : is_path_after (Some (codes "s")) None (codes "//a") ≡ false
+  pub empty_after_authority : is_path_after None (Some (codes "a")) [] ≡ true
+  pub rootless_after_authority : is_path_after None (Some (codes "a")) (codes "b") ≡ false
+  pub colon_after_scheme : is_path_after (Some (codes "s")) None (codes "a:b") ≡ true
+  pub slashes_after_scheme : is_path_after (Some (codes "s")) None (codes "//a") ≡ false
   pub colon_in_first_segment : is_path_after None None (codes "a:b") ≡ false
   pub colon_in_second_segment : is_path_after None None (codes "./a:b") ≡ true
   pub as_they_must : are_components (components (codes "http://a/b")) ≡ true
@@ -169,8 +169,8 @@ pub record ComponentRows : Type 0 where
 pub record SegmentRows : Type 0 where
   pub between_slashes : segments (codes "/a/b") ≡ [] ∷ codes "a" ∷ codes "b" ∷ []
   pub of_nothing : segments [] ≡ [] ∷ []
-  pub with_slashes : behind_slashes (codes "a" ∷ codes "b" ∷ []) ≡ codes "/a/b"
-  pub with_no_slash : behind_slashes [] ≡ []
+  pub with_slashes : after_slashes (codes "a" ∷ codes "b" ∷ []) ≡ codes "/a/b"
+  pub with_no_slash : after_slashes [] ≡ []
   pub absolute : joined_segments ([] ∷ codes "a" ∷ []) ≡ codes "/a"
   pub relative : joined_segments (codes "a" ∷ codes "b" ∷ []) ≡ codes "a/b"
   pub dot : is_dot (codes ".") ≡ true

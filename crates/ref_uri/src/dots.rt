@@ -234,7 +234,7 @@ fn after_dots(progress: Progress) -> Progress
 }
 
 /// Takes away the last segment of the path that begins at `start`, unless no other precedes it.
-fn take_last_behind(buffer: &mut String, start: usize, progress: Progress)
+fn take_last_after(buffer: &mut String, start: usize, progress: Progress)
     requires ascii { IsAscii (string_bytes buffer.old) }
     requires within { start ≤ length (string_bytes buffer.old) }
     ensures text { (before path : List ℕ) → string_bytes buffer.old ≡ before ++ path
@@ -270,7 +270,7 @@ fn push_given_segment(
         Segment::Name => push_names(buffer, progress, segment),
         Segment::Dot => Ok(after_dots(progress)),
         Segment::DotDot => {
-            take_last_behind(buffer, start, progress);
+            take_last_after(buffer, start, progress);
             Ok(after_dots(progress))
         }
     }

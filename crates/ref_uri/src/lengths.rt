@@ -45,7 +45,7 @@ fn component(text: &str, len: Option<usize>, mark: usize) -> Option<&str>
 }
 
 /// What follows a component of this length and its marks, if it is there.
-fn behind(text: &str, len: Option<usize>, marks: usize) -> &str
+fn after_component(text: &str, len: Option<usize>, marks: usize) -> &str
     requires ascii { IsAscii text.now }
     requires within { ForSome len (λ n. n + marks ≤ length text.now) }
     ensures value { result.now ≡ text_after len marks text.now }
@@ -97,11 +97,11 @@ impl Lengths {
         ensures rest { result.rest.now ≡ the_rest (query text.now) (fragment text.now) }
         ensures ascii { IsAscii result.front.now }
     {
-        let after_scheme = behind(text, self.scheme, 1);
-        let after_authority = behind(after_scheme, self.authority, 2);
+        let after_scheme = after_component(text, self.scheme, 1);
+        let after_authority = after_component(after_scheme, self.authority, 2);
         let front = head(text, text.len() - after_authority.len());
         let after_path = tail(after_authority, self.path);
-        let after_query = behind(after_path, self.query, 1);
+        let after_query = after_component(after_path, self.query, 1);
         Parts {
             scheme: component(text, self.scheme, 0),
             authority: component(after_scheme, self.authority, 2),

@@ -48,7 +48,7 @@ fn first_segment_len(text: &[u8], read: usize) -> Result<usize, ParseError>
 struct Front {
     /// How long the scheme is, where there is one.
     scheme: Option<usize>,
-    /// How many bytes of the path were read to tell that there is none.
+    /// How many bytes of the path were read to know that there is none.
     segment: usize,
 }
 
@@ -126,13 +126,13 @@ pub fn parse(text: &[u8]) -> Result<Lengths, ParseError>
     ensures error { IfErr result (λ e. e ≡ ParseError.Syntax) }
 {
     let front = read_front(text)?;
-    let rest = behind(text, front.scheme, 1);
+    let rest = after_component(text, front.scheme, 1);
     let authority = authority_len(rest)?;
-    let rest = behind(rest, authority, 2);
+    let rest = after_component(rest, authority, 2);
     let path = part_len(rest, front.segment, Class::Path)?;
     let (_, rest) = rest.split_at(path);
     let query = query_len(rest)?;
-    if !is_fragment_left(behind(rest, query, 1)) {
+    if !is_fragment_left(after_component(rest, query, 1)) {
         return Err(ParseError::Syntax);
     }
     Ok(Lengths {
@@ -144,7 +144,7 @@ pub fn parse(text: &[u8]) -> Result<Lengths, ParseError>
 }
 
 /// What follows a component that may be absent, and the marks that are with it.
-fn behind(text: &[u8], component: Option<usize>, marks: usize) -> &[u8]
+fn after_component(text: &[u8], component: Option<usize>, marks: usize) -> &[u8]
     requires { ForSome component (λ len. len + marks ≤ length text.now) }
     ensures { result.now ≡ text_after component marks text.now }
 {

@@ -75,8 +75,8 @@ impl<'a> UriRef<'a> {
         !holds(self.text.as_bytes(), b'%')
     }
 
-    /// Whether a reference without triples is its own normal form, and with a scheme its own target, as far as its characters
-    /// tell.
+    /// Whether a reference without triples is its own normal form, and with a scheme its own target, by its characters
+    /// alone.
     #[inline(never)]
     fn is_settled(&self) -> bool
         requires { LacksTriples (components self.now) }

@@ -7,7 +7,7 @@ ghost use Rattle.std.specs.Char.{to_ascii_lowercase};
 ghost use Rattle.ref_uri.specs.Normal.{guarded_path, normal_components, normal_text, normal_authority};
 ghost use Rattle.ref_uri.specs.Resolution.{through_last_slash, merged_path, target_path, resolved_components};
 ghost use Rattle.ref_uri.specs.inner.Written.{is_plain, the_front, the_rest, written_text, written_scheme, written_authority};
-ghost use Rattle.ref_uri.specs.inner.Target.{given_path, normal_path_of, written_path, written_by, written_components, lengths_of_components, AreParts, ArePlain, LosesSameDots, IsTarget, AreFramed, IsPlainTarget, LacksTriples, IsSettled, components_of, behind_directory, path_behind, target_with_dots};
+ghost use Rattle.ref_uri.specs.inner.Target.{given_path, normal_path_of, written_path, written_by, written_components, lengths_of_components, AreParts, ArePlain, LosesSameDots, IsTarget, AreFramed, IsPlainTarget, LacksTriples, IsSettled, components_of, after_directory, path_past, target_with_dots};
 ghost use Rattle.ref_uri.specs.Bytes.{slash};
 
 use crate::dots::{
@@ -65,7 +65,7 @@ fn last_slash(path: &[u8]) -> Option<usize>
 fn before_last_slash(path: &str) -> Option<&str>
     requires { IsAscii path.now }
     ensures value { (more : List ℕ)
-        → through_last_slash path.now ++ more ≡ behind_directory (option_copied result) more }
+        → through_last_slash path.now ++ more ≡ after_directory (option_copied result) more }
     ensures path { is_path path.now ≡ true → if_there is_path (option_copied result) ≡ true }
     ensures plain { is_plain path.now ≡ true → if_there is_plain (option_copied result) ≡ true }
 {
@@ -80,7 +80,7 @@ fn directory(base: Parts<'_>) -> Option<&str>
     requires { IsAscii base.path.now }
     ensures value { (path : List ℕ)
         → merged_path (components_of base.entry) path
-        ≡ behind_directory (option_copied result) path }
+        ≡ after_directory (option_copied result) path }
     ensures path { is_path base.entry.path.now ≡ true
         → if_there is_path (option_copied result) ≡ true }
     ensures plain { is_plain base.entry.path.now ≡ true
@@ -93,12 +93,12 @@ fn directory(base: Parts<'_>) -> Option<&str>
 }
 
 /// The path of the target of a reference that has one (RFC 3986, 5.2.2).
-fn path_behind<'a>(base: Parts<'a>, path: &'a str) -> PathOf<'a>
+fn path_past<'a>(base: Parts<'a>, path: &'a str) -> PathOf<'a>
     requires { IsAscii base.path.now }
     ensures value { written_path Form.Given result
         ≡ target_path (components_of base.entry) path.now }
     ensures normal { written_path Form.Normal result
-        ≡ remove_dot_segments (normal_text (path_behind (components_of base.entry) path.now)) }
+        ≡ remove_dot_segments (normal_text (path_past (components_of base.entry) path.now)) }
     ensures parts { is_path base.entry.path.now ≡ true → is_path path.now ≡ true → AreParts result }
     ensures plain { is_plain base.entry.path.now ≡ true → is_plain path.now ≡ true
         → ArePlain result }
@@ -167,7 +167,7 @@ pub fn resolved<'a>(base: Parts<'a>, reference: Parts<'a>) -> Target<'a>
     Target {
         scheme: base.scheme,
         authority: base.authority,
-        path: path_behind(base, reference.path),
+        path: path_past(base, reference.path),
         query,
         fragment,
         front: Some(base.front),

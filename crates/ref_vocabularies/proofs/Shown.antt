@@ -18,14 +18,14 @@ regroup a b c d = simp append_assoc
 abbrev behind : List (List ℕ) → List ℕ
 behind texts = flat_map (λ t. codes ", " ++ quoted_text t) texts
 
-behind_more : (xs : List (List ℕ)) (x : List ℕ) → behind (xs ++ x ∷ []) ≡ behind xs ++ (codes ", " ++ quoted_text x)
-behind_more xs x = flat_map-append (λ t. codes ", " ++ quoted_text t) xs (x ∷ []) ∙ ap (λ t. behind xs ++ t) (append-nil (codes ", " ++ quoted_text x))
+after_more : (xs : List (List ℕ)) (x : List ℕ) → behind (xs ++ x ∷ []) ≡ behind xs ++ (codes ", " ++ quoted_text x)
+after_more xs x = flat_map-append (λ t. codes ", " ++ quoted_text t) xs (x ∷ []) ∙ ap (λ t. behind xs ++ t) (append-nil (codes ", " ++ quoted_text x))
 
 -- a further item
 pub opened_more : (xs : List (List ℕ)) (x : List ℕ) → opened_text xs ++ item (is_nil xs) x ≡ opened_text (xs ++ x ∷ [])
 opened_more [] x = ap (λ t. codes "[" ++ t) (sym (append-nil (quoted_text x)))
 opened_more (y ∷ ys) x =
-    regroup (codes "[") (quoted_text y) (behind ys) (codes ", " ++ quoted_text x) ∙ ap (λ t. codes "[" ++ (quoted_text y ++ t)) (sym (behind_more ys x))
+    regroup (codes "[") (quoted_text y) (behind ys) (codes ", " ++ quoted_text x) ∙ ap (λ t. codes "[" ++ (quoted_text y ++ t)) (sym (after_more ys x))
 
 pub is_nil_more : (xs : List (List ℕ)) (x : List ℕ) → is_nil (xs ++ x ∷ []) ≡ false
 is_nil_more [] x = refl

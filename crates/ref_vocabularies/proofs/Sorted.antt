@@ -120,7 +120,7 @@ missing u (x ∷ xs) (suc i) at =
     rw (equal x u, at.0 0 x (omega arith) (omega arith))
     (missing u xs i (λ k d low high. at.0 (suc k) d (omega arith) (omega arith), λ k d low high. at.1 (suc k) d (omega arith) (omega arith)))
 
--- a search by halves tells whether a URI is there
+-- a search by halves shows whether a URI is there
 pub found-there : (u : List ℕ) (xs : List (List ℕ)) (r : Result ℕ ℕ) → AreInByteOrder xs → IsSearchInRange r (length xs)
     → IsBinarySearchResult (λ y. order y u) xs r → is_ok r ≡ has_uri xs u
 found-there u xs (Ok i) sorted range result = sym (there-found u xs i range result)

@@ -24,7 +24,7 @@ use std::alloc::Global;
 use std::process::ExitCode;
 
 /// What is printed of a line, which begins with a word.
-fn told(alloc: Global, line: &str) -> Result<Trial, Stop> {
+fn trial_of(alloc: Global, line: &str) -> Result<Trial, Stop> {
     let (line, _) = line.split_once('\t').unwrap_or((line, ""));
     let (word, call) = line.split_once(' ').unwrap_or((line, ""));
     if refused::is_group(word) {
@@ -39,7 +39,7 @@ fn main(rt: HostRuntime) -> ExitCode {
         let Ok(line) = line else {
             return ExitCode::from(Stop::Before.status());
         };
-        let trial = match told(rt.alloc(), line.as_str()) {
+        let trial = match trial_of(rt.alloc(), line.as_str()) {
             Ok(trial) => trial,
             Err(stop) => return ExitCode::from(stop.status()),
         };

@@ -9,10 +9,10 @@ use Rattle.ref_definitions.specs.Wants.{faults}
 use Rattle.ref_definitions.specs.Fault.{Fault}
 use Rattle.ref_definitions.specs.Lookup as world
 use Rattle.ref_definitions.specs.Lookup.{located_value}
-use Rattle.ref_definitions.specs.Agreement.{ChildrenStand, IsAtOrBelow, IsReadAlike, IsPathOfTexts}
+use Rattle.ref_definitions.specs.Agreement.{ChildrenAreThere, IsAtOrBelow, IsReadAlike, IsPathOfTexts}
 use Rattle.ref_definitions.proofs.AtOrBelow.{below_is_place, place_has_base}
 use Rattle.ref_definitions.proofs.Located.{leads_to}
-use Rattle.ref_definitions.proofs.Standing.{StandsAt, all_stand_where}
+use Rattle.ref_definitions.proofs.Standing.{IsValueAt, all_are_there_where}
 use Rattle.ref_error.specs.declared.error.Error.{Error}
 use Rattle.ref_error.specs.declared.error.Error.TheVariants as error
 use Rattle.ref_error.specs.Errors.{IsFaultOf, IsMemory, Gives}
@@ -21,8 +21,8 @@ use Rattle.ref_resolver.specs.Resolving.{found_of}
 use Rattle.referencing.specs.Listed.{AnswersPlace}
 
 -- a place's value is at its path, where the children of the document's places do
-pub value_there : (d : Document) (p : Place) → ChildrenStand d → Contains (places d) p → value_at d.tree p.path ≡ Some p.value
-value_there d p children there = All-contains (StandsAt d.tree) (places d) p (All-from_recursion (StandsAt d.tree) (places d) (all_stand_where d children)) there
+pub value_there : (d : Document) (p : Place) → ChildrenAreThere d → Contains (places d) p → value_at d.tree p.path ≡ Some p.value
+value_there d p children there = All-contains (IsValueAt d.tree) (places d) p (All-from_recursion (IsValueAt d.tree) (places d) (all_are_there_where d children)) there
 
 -- what is found at a place, looked up from a URI
 abbrev pub found_at : Place → List ℕ → List ℕ → world.Found
@@ -34,7 +34,7 @@ pub record LeadsHere (answer : Result world.Found Fault) (q : Place) (uri : List
   pub is : q.base ≡ Ok base
   pub found : answer ≡ Ok (found_at q uri base)
 
-pub leads_here : (world : World) (d : Document) (r q : Place) (uri : List ℕ) (path : List Part) → ((e : Document) → Contains (local_documents world) e → ChildrenStand e) → faults (local_documents world) ≡ []
+pub leads_here : (world : World) (d : Document) (r q : Place) (uri : List ℕ) (path : List Part) → ((e : Document) → Contains (local_documents world) e → ChildrenAreThere e) → faults (local_documents world) ≡ []
     → IsReadAlike (local_documents world) d r uri → IsAtOrBelow q r → q.path ≡ r.path ++ path → IsPathOfTexts path → LeadsHere (located_value world uri path) q uri
 leads_here [] d r q uri path children none alike under is texts = absurd (omega (arith, alike.document.1))
 leads_here (layer ∷ parents) d r q uri path children none alike under is texts =

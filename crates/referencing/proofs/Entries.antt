@@ -27,13 +27,13 @@ none_swapped p (e ∷ es) none =
     let here : cond (bytes_eq e.0 p.uri) p (pending_under e) ≡ pending_under e = ap (λ t. cond t p (pending_under e)) (other_way p.uri e.0 false none.0) in
     ap (λ x. x ∷ swapped p (map pending_under es)) here ∙ ap (λ xs. pending_under e ∷ xs) (none_swapped p es none.1)
 
-put_behind : (p u : Pending) (ps : List Pending) (any : Bool) → cond any (u ∷ swapped p ps) (u ∷ (ps ++ p ∷ [])) ≡ u ∷ cond any (swapped p ps) (ps ++ p ∷ [])
-put_behind p u ps true = refl
-put_behind p u ps false = refl
+put_after : (p u : Pending) (ps : List Pending) (any : Bool) → cond any (u ∷ swapped p ps) (u ∷ (ps ++ p ∷ [])) ≡ u ∷ cond any (swapped p ps) (ps ++ p ∷ [])
+put_after p u ps true = refl
+put_after p u ps false = refl
 
 put_at : (p u : Pending) (ps : List Pending) (t : Bool) → bytes_eq u.uri p.uri ≡ t → put p (u ∷ ps) ≡ cond t (p ∷ swapped p ps) (u ∷ put p ps)
 put_at p u ps true is = rw is refl
-put_at p u ps false is = rw is (put_behind p u ps (list_any (λ e. bytes_eq e.uri p.uri) ps))
+put_at p u ps false is = rw is (put_after p u ps (list_any (λ e. bytes_eq e.uri p.uri) ps))
 
 put_step : (e : List ℕ × PendingResource) (es : Entries) (k : List ℕ) (v : PendingResource) (t : Bool) → bytes_eq k e.0 ≡ t
     → (IsDistinct bytes_eq (keys_of (insert_entry bytes_eq es k v)) → map pending_under (insert_entry bytes_eq es k v) ≡ put (pending_under (k, v)) (map pending_under es))

@@ -63,10 +63,6 @@ retrieving_from retriever b =
 abbrev pub limited_to : {R : Type 0} → ℕ → Builder R → Builder R
 limited_to limit b = record b { limit = limit }
 
--- above these layers
-abbrev pub standing_above : {R : Type 0} → World → Builder R → Builder R
-standing_above parents b = record b { parents = parents }
-
 -- with these pending documents
 abbrev pub holding_pending : {R : Type 0} → List Pending → Builder R → Builder R
 holding_pending pending b = record b { pending = pending }

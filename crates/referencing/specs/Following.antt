@@ -8,9 +8,7 @@ use Rattle.ref_draft.specs.declared.draft.Draft.{Draft}
 use Rattle.ref_draft.specs.Views.{resource_ref}
 use Rattle.ref_definitions.specs.World.{World}
 use Rattle.ref_definitions.specs.Fault.{Fault}
-use Rattle.ref_definitions.specs.Results.{◌>>=◌}
 use Rattle.ref_definitions.specs.Follow as world
-use Rattle.ref_definitions.specs.Lookup.{Found}
 use Rattle.ref_error.specs.declared.error.Error.{Error}
 use Rattle.ref_error.specs.declared.error.Error.TheVariants as error
 use Rattle.ref_error.specs.Errors.{SaysFault, error_text}
@@ -26,10 +24,6 @@ step_of (step.Lookup reference) = world.Lookup reference.now
 step_of step.Recursive = world.Recursive
 step_of (step.Enter resource) =
     world.Enter (resource_ref resource).draft (resource_ref resource).contents
-
--- what a look-up finds, as that of a step
-abbrev pub after_found : Result Found Fault → Result world.Followed Fault
-after_found found = found >>= λ f. Ok (world.after_lookup f)
 
 -- a document's own value, with its draft
 abbrev pub lent_last : Option (Bor Value × Draft) → Option (Data × Draft)

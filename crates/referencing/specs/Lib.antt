@@ -5,6 +5,7 @@ pub mod Answering
 pub mod MetaSchemas
 pub mod Listed
 pub mod Rows
+pub mod inner
 -- What public clauses cite of the crates below: a caller imports it from here.
 pub use Rattle.ref_definitions.specs.World
 pub use Rattle.ref_definitions.specs.Places

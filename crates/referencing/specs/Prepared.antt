@@ -35,8 +35,8 @@ ReferencesAreRetrieved world =
 -- what a registry shows for debugging: how many own documents and how many parents it has
 abbrev pub registry_text : World → List ℕ
 registry_text world =
-    codes "Registry { documents: " ++ decimal (length (local_documents world)) ++ codes ", parents: "
-    ++ decimal (length (drop 1 world)) ++ codes " }"
+    codes "Registry { documents: " ++ decimal (length (local_documents world))
+    ++ codes ", parents: " ++ decimal (length (drop 1 world)) ++ codes " }"
 
 -- whether a text is a URI that means a place
 abbrev pub contains_resource : World → List ℕ → Bool

@@ -105,7 +105,7 @@ impl<'a, R: Retrieve + Drop> RegistryBuilder<'a, R> {
     /// to documents that nothing else is asked of.
     ///
     /// The answer is what the steps lead to over documents that preparing may return: those that were added and those that
-    /// were retrieved for them. `Prepare` tells a fault of the documents, a refusal of the retriever, or the limit, as
+    /// were retrieved for them. `Prepare` gives a fault of the documents, a refusal of the retriever, or the limit, as
     /// [`RegistryBuilder::prepare`] does; `Follow` the first step that finds no value, as [`follow`] does; `Memory` that there
     /// is none for the copy.
     pub fn prepare_and_follow(self, base: Uri, steps: &[Step<'_>]) -> Result<Answer, AnswerError>

@@ -5,7 +5,8 @@ ghost use Rattle.ref_definitions.specs.Fault.{as_invalid_uri};
 ghost use Rattle.ref_definitions.specs.Pending.{with_addition, with_additions, with_pending};
 ghost use Rattle.ref_index.specs.Contents.{tree_of};
 ghost use Rattle.ref_error.specs.Errors.{IsFaultOf};
-ghost use Rattle.referencing.specs.Builder.{pending_under, builder_of, setting_draft, retrieving_from, limited_to, standing_above, addition, Adds, OfAllFrom};
+ghost use Rattle.referencing.specs.Builder.{pending_under, builder_of, setting_draft, retrieving_from, limited_to, addition, Adds, OfAllFrom};
+ghost use Rattle.referencing.specs.inner.Parents.{above_layers};
 
 use crate::input::{IntoRegistryResource, PendingResource, shared};
 use indexmap::IndexMap;
@@ -220,7 +221,7 @@ pub(crate) fn above<'a>(
     parents: Vec<&'a Index<'a>>,
 ) -> RegistryBuilder<'a>
     ensures value { builder_of result
-        ≡ standing_above (map (λ p. p.now) parents.entry.items) (builder_of builder.entry) }
+        ≡ above_layers (map (λ p. p.now) parents.entry.items) (builder_of builder.entry) }
 {
     let mut builder = builder;
     builder.parents = parents;

@@ -57,7 +57,7 @@ impl<'a> Registry<'a> {
     pub fn places(&self, alloc: Global) -> Result<Vec<Place<'_>>, Error>
         ensures value { IfOk result
             (λ places. map listed_of places.items ≡ local_places (local_documents self.now)) }
-        ensures stand { (d : WorldDocument) (p : WorldPlace) → Contains (local_documents self.now) d
+        ensures are_there { (d : WorldDocument) (p : WorldPlace) → Contains (local_documents self.now) d
             → Contains (places d) p → value_at d.tree p.path ≡ Some p.value }
         ensures memory { IfErr result IsMemory }
     {

@@ -5,7 +5,7 @@ ghost use Rattle.std.specs.List.{Contains};
 ghost use Rattle.serde_json.specs.View.{view};
 ghost use Rattle.ref_uri.specs.Targets.{uri_against};
 ghost use Rattle.ref_definitions.specs.World.{Document as WorldDocument, local_documents};
-ghost use Rattle.ref_definitions.specs.Agreement.{ChildrenStand};
+ghost use Rattle.ref_definitions.specs.Agreement.{ChildrenAreThere};
 ghost use Rattle.ref_definitions.specs.Places.{Place, places};
 ghost use Rattle.ref_definitions.specs.Fault.{as_invalid_uri};
 ghost use Rattle.ref_definitions.specs.Wants.{faults, open_wants};
@@ -157,9 +157,9 @@ impl<'a> Registry<'a> {
         ensures value { result.now ≡ local_documents self.now }
         ensures no_fault { faults (local_documents self.now) ≡ [] }
         ensures children { (d : WorldDocument) → Contains (local_documents self.now) d
-            → ChildrenStand d }
+            → ChildrenAreThere d }
     {
-        self.own.children_stand();
+        self.own.children_are_there();
         &self.own
     }
 

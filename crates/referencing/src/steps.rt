@@ -8,7 +8,8 @@ ghost use Rattle.referencing.specs.declared.steps.Step.TheVariants.{Enter};
 ghost use Rattle.ref_definitions.specs.Lookup.{lookup};
 ghost use Rattle.ref_error.specs.Errors.{Gives};
 ghost use Rattle.ref_resolver.specs.Resolving.{resolver_of, world_of, found_of, world_found};
-ghost use Rattle.referencing.specs.Following.{step_of, followed_of, after_found, GivesSteps, ReachesStep};
+ghost use Rattle.referencing.specs.Following.{step_of, followed_of, GivesSteps, ReachesStep};
+ghost use Rattle.referencing.specs.inner.Steps.{after_found};
 
 use crate::registry::Registry;
 use ref_draft::{Draft, ResourceRef};

@@ -18,9 +18,9 @@ pub fn agreed(
 }
 
 /// What is to hold, or else what is said.
-pub fn expect(holds: bool, told: &'static str) -> Result<(), Fault> {
+pub fn expect(holds: bool, text: &'static str) -> Result<(), Fault> {
     if holds {
         return Ok(());
     }
-    Err(Fault::Form(told))
+    Err(Fault::Form(text))
 }

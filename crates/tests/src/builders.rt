@@ -1,4 +1,4 @@
-//! Builders that are made here, since no row can tell how a document is lent: what they hold, and how they and their
+//! Builders that are made here, since no row can say how a document is lent: what they hold, and how they and their
 //! copies are shown.
 use crate::fault::{Fault, done, made};
 use crate::inputs::held;

@@ -189,7 +189,7 @@ fn is_ended_by_a_sink(
 }
 
 // Whether a failure is given by a sink that has less room than a report has bytes, and none by one that has as much.
-fn is_told_by_each_sink(alloc: Global, request: &str, ending: &Ending<'_>) -> bool {
+fn is_reported_by_each_sink(alloc: Global, request: &str, ending: &Ending<'_>) -> bool {
     for room in 0..ending.report.len() {
         if !is_ended_by_a_sink(alloc, request, room, (Err(RunError::Write), 1)) {
             return false;
@@ -198,8 +198,8 @@ fn is_told_by_each_sink(alloc: Global, request: &str, ending: &Ending<'_>) -> bo
     is_ended_by_a_sink(alloc, request, ending.report.len(), (Ok(ending.status), 0))
 }
 
-// Whether a failed write is said, of a sink of which each fails.
-fn is_told(alloc: Global, request: &str) -> bool {
+// Whether a failed write is reported, of a sink of which each fails.
+fn is_reported(alloc: Global, request: &str) -> bool {
     let mut reader = MemorySource::new(request.as_bytes());
     let mut writer = Broken { failures: 0 };
     let answer = run(alloc, &mut reader, &mut writer);
@@ -224,8 +224,8 @@ fn is_ended(
     (answer, writer.failures) == ended && writer.writer.taken == room
 }
 
-// Whether a failure is said at whichever byte of a report a write fails, and none where none does.
-fn is_told_at_each_byte(alloc: Global, request: &str, ending: &Ending<'_>) -> bool {
+// Whether a failure is reported at whichever byte of a report a write fails, and none where none does.
+fn is_reported_at_each_byte(alloc: Global, request: &str, ending: &Ending<'_>) -> bool {
     for room in 0..ending.report.len() {
         if !is_ended(alloc, request, room, true, (Err(RunError::Write), 1)) {
             return false;
@@ -240,8 +240,8 @@ fn is_told_at_each_byte(alloc: Global, request: &str, ending: &Ending<'_>) -> bo
     )
 }
 
-// Whether a failed flush is said, once the whole report is written.
-fn is_told_at_the_flush(alloc: Global, request: &str, ending: &Ending<'_>) -> bool {
+// Whether a failed flush is reported, once the whole report is written.
+fn is_reported_at_the_flush(alloc: Global, request: &str, ending: &Ending<'_>) -> bool {
     let ended = (Err(RunError::Write), 1);
     is_ended(alloc, request, ending.report.len(), false, ended)
 }
@@ -274,20 +274,20 @@ fn is_written_into_its_room(
 /// report's room.
 pub fn each(alloc: Global, request: &str, ending: &Ending<'_>) -> Result<(), Fault> {
     let reads = is_refused_at_each_read(alloc, request);
-    expect(reads, "a failed read isn't told")?;
+    expect(reads, "a failed read isn't reported")?;
     let sources = is_refused_by_each_source(alloc, request);
-    expect(sources, "a source that failed isn't told")?;
-    let sinks = is_told_by_each_sink(alloc, request, ending);
-    expect(sinks, "a sink that failed isn't told")?;
-    let write = is_told(alloc, request);
-    expect(write, "a failed write isn't told")?;
-    let bytes = is_told_at_each_byte(alloc, request, ending);
+    expect(sources, "a source that failed isn't reported")?;
+    let sinks = is_reported_by_each_sink(alloc, request, ending);
+    expect(sinks, "a sink that failed isn't reported")?;
+    let write = is_reported(alloc, request);
+    expect(write, "a failed write isn't reported")?;
+    let bytes = is_reported_at_each_byte(alloc, request, ending);
     expect(
         bytes,
-        "a failure at a byte isn't told, or the report is another",
+        "a failure at a byte isn't reported, or the report is another",
     )?;
-    let flush = is_told_at_the_flush(alloc, request, ending);
-    expect(flush, "a failed flush isn't told")?;
+    let flush = is_reported_at_the_flush(alloc, request, ending);
+    expect(flush, "a failed flush isn't reported")?;
     let room = is_written_into_its_room(alloc, request, ending)?;
     expect(room, "the report isn't written into its room")
 }

@@ -53,7 +53,7 @@ fn of_child(
         "shown registries" => shown(alloc, parent, &child),
         "texts by children" => by_copies(alloc, &child, row),
         "lookups by generations" => led_by_grandchild(alloc, &child, row),
-        "locations by children" => lookups::stands(alloc, &child, row),
+        "locations by children" => lookups::is_at_path(alloc, &child, row),
         _ => of_generations(alloc, parent, &child, row),
     }
 }

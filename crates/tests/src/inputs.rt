@@ -60,7 +60,7 @@ fn title_by_call(alloc: Global, registry: &Registry<'_>, reference: &str) -> Res
 fn title_by_step(alloc: Global, registry: &Registry<'_>, reference: &str) -> Result<String, Fault> {
     let base = row::uri_of(alloc, "http://a/r")?;
     let Ok(followed) = follow(alloc, registry, base, &[Step::Lookup(reference)]) else {
-        return Err(Fault::Form("a step leads nowhere"));
+        return Err(Fault::Form("a step finds no value"));
     };
     match followed.last {
         Some((value, _)) => made(title_of(alloc, value)),

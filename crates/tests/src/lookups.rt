@@ -42,7 +42,10 @@ fn faulted<E: fmt::Display>(alloc: Global, step: usize, error: &E) -> Result<Str
 }
 
 /// Where steps led, or the number and the text of a fault.
-fn told(alloc: Global, answer: &Result<Followed<'_>, FollowError>) -> Result<String, Fault> {
+fn shown_answer(
+    alloc: Global,
+    answer: &Result<Followed<'_>, FollowError>,
+) -> Result<String, Fault> {
     match answer {
         Ok(followed) => made(shown(alloc, followed)),
         Err(ended) => faulted(alloc, ended.step, &ended.error),
@@ -57,7 +60,7 @@ fn led_by_steps(
     steps: &[Step<'_>],
 ) -> Result<String, Fault> {
     let base = row::uri_of(alloc, base)?;
-    told(alloc, &follow(alloc, registry, base, steps))
+    shown_answer(alloc, &follow(alloc, registry, base, steps))
 }
 
 /// Where a look-up leads.
@@ -139,7 +142,7 @@ fn answers(alloc: Global, registry: &Registry<'_>, row: &Value) -> Result<String
 
 /// Where the value is that a reference leads to from a resolver, or a recursive one, which is `*`: the layer, the
 /// number of the document, and the pointer there.
-fn standing(alloc: Global, resolver: &Resolver<'_>, reference: &str) -> Result<String, Fault> {
+fn are_at_paths(alloc: Global, resolver: &Resolver<'_>, reference: &str) -> Result<String, Fault> {
     let answer = match reference {
         "*" => resolver.location_recursive(alloc),
         _ => resolver.location(alloc, reference),
@@ -151,12 +154,12 @@ fn standing(alloc: Global, resolver: &Resolver<'_>, reference: &str) -> Result<S
 }
 
 /// The same of the reference in a row, and of the resolver to which its steps lead from the base in the column before them.
-pub fn stands(alloc: Global, registry: &Registry<'_>, row: &Value) -> Result<String, Fault> {
+pub fn is_at_path(alloc: Global, registry: &Registry<'_>, row: &Value) -> Result<String, Fault> {
     let base = row::uri(alloc, row, 4)?;
     let steps = steps_of(alloc, row::list(row, 5)?)?;
     match follow(alloc, registry, base, steps.as_slice()) {
-        Ok(followed) => standing(alloc, &followed.resolver, row::text(row, 6)?),
-        Err(_) => Err(Fault::Form("a step leads nowhere")),
+        Ok(followed) => are_at_paths(alloc, &followed.resolver, row::text(row, 6)?),
+        Err(_) => Err(Fault::Form("a step finds no value")),
     }
 }
 
@@ -176,7 +179,7 @@ fn scoped(alloc: Global, registry: &Registry<'_>, row: &Value) -> Result<String,
     let steps = steps_of(alloc, row::list(row, 5)?)?;
     match follow(alloc, registry, base, steps.as_slice()) {
         Ok(followed) => made(base_and_scope(alloc, &followed.resolver)),
-        Err(_) => Err(Fault::Form("a step leads nowhere")),
+        Err(_) => Err(Fault::Form("a step finds no value")),
     }
 }
 
@@ -187,7 +190,7 @@ pub fn found(asked: Asked<'_, '_>) -> Result<String, Fault> {
         "answers" => answers(alloc, registry, row),
         "lookups" => led(alloc, registry, row),
         "scopes" => scoped(alloc, registry, row),
-        "locations" => stands(alloc, registry, row),
+        "locations" => is_at_path(alloc, registry, row),
         _ => Err(Fault::Form("no such table")),
     }
 }

@@ -36,7 +36,7 @@ use std::alloc::{AllocError, Global};
 use std::io;
 
 /// What is said of a row that has an answer, which is counted where it is the expected one.
-fn told_of_answer(
+fn text_of_answer(
     alloc: Global,
     tally: &mut Tally,
     table: &str,
@@ -46,12 +46,12 @@ fn told_of_answer(
     if found == expected {
         tally.count(alloc, table)
     } else {
-        tally.tell(alloc, table, found, expected)
+        tally.note(alloc, table, found, expected)
     }
 }
 
 /// What is said of a row, which is counted where its answer, or the text of the fault in its place, is the expected one.
-fn told_of_row(
+fn text_of_row(
     alloc: Global,
     tally: &mut Tally,
     given: &Value,
@@ -63,7 +63,7 @@ fn told_of_row(
         Ok(found) => found,
         Err(fault) => format!(in alloc; "{fault}")?,
     };
-    told_of_answer(alloc, tally, table, found.as_str(), expected)
+    text_of_answer(alloc, tally, table, found.as_str(), expected)
 }
 
 /// The text of a request, where a line gives one.
@@ -75,7 +75,7 @@ fn request_of(line: &str) -> Option<&str> {
 }
 
 /// What is said of a line, which may give something for the rows after it.
-fn told_of_line(
+fn text_of_line(
     alloc: Global,
     tally: &mut Tally,
     given: &mut Value,
@@ -92,7 +92,7 @@ fn told_of_line(
         *given = row;
         return tally.give(alloc);
     }
-    told_of_row(alloc, tally, given, &row)
+    text_of_row(alloc, tally, given, &row)
 }
 
 fn main(rt: HostRuntime) -> io::Result<()> {
@@ -104,7 +104,7 @@ fn main(rt: HostRuntime) -> io::Result<()> {
         if line.is_empty() || line.as_str().starts_with("//") {
             continue;
         }
-        let text = told_of_line(rt.alloc(), &mut tally, &mut given, line.as_str())?;
+        let text = text_of_line(rt.alloc(), &mut tally, &mut given, line.as_str())?;
         print!(rt; "{text}")?;
     }
     let text = tally.end(rt.alloc())?;

@@ -60,7 +60,7 @@ fn place_text(
 }
 
 /// The texts of places.
-fn told(alloc: Global, places: &[Place<'_>]) -> Result<String, AllocError> {
+fn shown_places(alloc: Global, places: &[Place<'_>]) -> Result<String, AllocError> {
     let mut text = String::new(alloc);
     for place in places {
         let line = place_text(alloc, place, place.base.as_str(), place.draft)?;
@@ -72,7 +72,7 @@ fn told(alloc: Global, places: &[Place<'_>]) -> Result<String, AllocError> {
 /// The places of a registry.
 fn listed(alloc: Global, registry: &Registry<'_>) -> Result<String, Fault> {
     let places = done(alloc, registry.places(alloc))?;
-    made(told(alloc, places.as_slice()))
+    made(shown_places(alloc, places.as_slice()))
 }
 
 /// A place as its path leads to it from a base.

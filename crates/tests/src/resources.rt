@@ -42,7 +42,7 @@ pub fn resolved(alloc: Global, registry: &Registry<'_>, row: &Value) -> Result<S
 }
 
 /// The text of a refusal, or what was resolved.
-fn told(answer: Result<String, Fault>) -> Result<String, Fault> {
+fn shown(answer: Result<String, Fault>) -> Result<String, Fault> {
     match answer {
         Ok(text) | Err(Fault::Text(text)) => Ok(text),
         Err(fault) => Err(fault),
@@ -54,8 +54,8 @@ pub fn resolved_by_resolvers(alloc: Global, row: &Value) -> Result<String, Fault
     let (base, again, text) = (base_of(row, 1)?, base_of(row, 1)?, row::text(row, 2)?);
     let registry = done(alloc, Registry::new(alloc).prepare())?;
     let resolver = resolver(alloc, &registry, "http://o/")?;
-    let first = told(meant(alloc, registry.resolve_uri(alloc, base, text)))?;
-    let other = told(meant(alloc, resolver.resolve_uri(alloc, again, text)))?;
+    let first = shown(meant(alloc, registry.resolve_uri(alloc, base, text)))?;
+    let other = shown(meant(alloc, resolver.resolve_uri(alloc, again, text)))?;
     agreed(alloc, first, other, ["at first", "by the resolver"])
 }
 

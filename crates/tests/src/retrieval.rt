@@ -118,7 +118,7 @@ fn is_exhausted(alloc: Global, row: &Value) -> Result<String, Fault> {
 }
 
 /// A fault, and its debug text in the next line.
-fn told(alloc: Global, prepared: &Result<Registry<'_>, Error>) -> Result<String, Fault> {
+fn shown(alloc: Global, prepared: &Result<Registry<'_>, Error>) -> Result<String, Fault> {
     match prepared {
         Ok(_) => Err(Fault::Form("nothing is refused")),
         Err(error) => made(format!(in alloc; "{error}\n{error:?}")),
@@ -131,7 +131,7 @@ fn refused(alloc: Global, row: &Value) -> Result<String, Fault> {
     let documents = row::documents(alloc, row, 1)?;
     let reason = row::text(row, 2)?;
     let builder = Registry::new(alloc).retriever(Always::Refusing(reason));
-    told(alloc, &prepared(builder, documents))
+    shown(alloc, &prepared(builder, documents))
 }
 
 /// Of a row of documents and a limit, `null` where none is set: the fault with which preparing them ends, where each

@@ -43,9 +43,9 @@ impl Tally {
 
     /// Goes on to what is given here for the rows after it. What is said of what was given before.
     pub fn give(&mut self, alloc: Global) -> Result<String, AllocError> {
-        let told = self.unasked(alloc)?;
+        let text = self.unasked(alloc)?;
         self.has_row = false;
-        Ok(told)
+        Ok(text)
     }
 
     /// What is said of a table that ends here.
@@ -58,9 +58,9 @@ impl Tally {
 
     /// What is said at the end.
     pub fn end(&self, alloc: Global) -> Result<String, AllocError> {
-        let told = self.unasked(alloc)?;
+        let text = self.unasked(alloc)?;
         let table = self.table(alloc)?;
-        format!(in alloc; "{told}{table}")
+        format!(in alloc; "{text}{table}")
     }
 
     /// Begins a table, where a row is not of the one that is read; what is said of that.
@@ -69,31 +69,31 @@ impl Tally {
         if self.table.as_str() == table {
             return Ok(String::new(alloc));
         }
-        let told = self.table(alloc)?;
+        let text = self.table(alloc)?;
         self.table = String::from_str(alloc, table)?;
         self.count = 0;
-        Ok(told)
+        Ok(text)
     }
 
     /// What is said of a row, and of a table that ends before it, where another answer is expected.
-    pub fn tell(
+    pub fn note(
         &mut self,
         alloc: Global,
         table: &str,
         found: &str,
         expected: &str,
     ) -> Result<String, AllocError> {
-        let told = self.begin_table(alloc, table)?;
+        let text = self.begin_table(alloc, table)?;
         format!(in alloc;
-            "{told}{table} {}: found {found:?}, expected {expected:?}\n",
+            "{text}{table} {}: found {found:?}, expected {expected:?}\n",
             self.line
         )
     }
 
     /// Counts a row whose answer is what is expected. What is said of a table that ends before it.
     pub fn count(&mut self, alloc: Global, table: &str) -> Result<String, AllocError> {
-        let told = self.begin_table(alloc, table)?;
+        let text = self.begin_table(alloc, table)?;
         self.count = self.count.saturating_add(1);
-        Ok(told)
+        Ok(text)
     }
 }

@@ -99,7 +99,7 @@ impl Found {
     }
 
     /// What is said of a run that ends otherwise.
-    fn told(&self, alloc: Global, way: &str) -> Result<(), Fault> {
+    fn shown(&self, alloc: Global, way: &str) -> Result<(), Fault> {
         let report = str::from_utf8(self.report.as_slice()).unwrap_or("no text");
         let text = format!(in alloc; "{:?} {report:?} {way}", self.answer)?;
         Err(Fault::Text(text))
@@ -111,7 +111,7 @@ pub fn compare(alloc: Global, found: &Found, way: &str, ending: &Ending<'_>) -> 
     if found.is_of(ending) {
         return Ok(());
     }
-    found.told(alloc, way)
+    found.shown(alloc, way)
 }
 
 /// Runs on a request in each way.

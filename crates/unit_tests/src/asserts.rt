@@ -1,4 +1,4 @@
-//! The assertions of the tests. One that is written out in a test is proved there once more, and is the dearest part of it.
+//! The assertions of the tests. One that is written out in a test is proved there once more, and costs more than the rest of it.
 
 use std::alloc::{AllocError, Global};
 use std::fmt;
@@ -47,7 +47,7 @@ pub fn assert_displayed<T: fmt::Display>(
 }
 
 /// Ends the test where an answer, or why there is none, is displayed otherwise than as this text.
-pub fn assert_told<T: fmt::Display + Drop, E: fmt::Display + Drop>(
+pub fn assert_result<T: fmt::Display + Drop, E: fmt::Display + Drop>(
     rt: &impl Abort,
     alloc: Global,
     answer: Result<T, E>,

@@ -84,10 +84,7 @@ fn is_authority(authority: &str) -> bool {
 /// The scheme of a text without query and fragment, and what is after it.
 fn split_scheme(text: &str) -> (Option<&str>, &str) {
     match text.split_once(':') {
-        Some((scheme, behind)) if !scheme.is_empty() && !scheme.contains('/') => (
-            Some(scheme),
-            behind,
-        ),
+        Some((scheme, rest)) if !scheme.is_empty() && !scheme.contains('/') => (Some(scheme), rest),
         _ => (None, text),
     }
 }

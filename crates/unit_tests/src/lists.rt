@@ -95,7 +95,7 @@ fn list_of(alloc: Global, items: &Row<'_>) -> Result<List<usize>, AllocError> {
     Ok(list)
 }
 
-// Ends the test where a list tells something else.
+// Ends the test where a list holds something else.
 fn assert_items(rt: &impl Abort, list: &List<usize>, row: &Row<'_>) {
     let items = row.row(0);
     let mut given = list.iter();

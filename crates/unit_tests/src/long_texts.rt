@@ -66,9 +66,9 @@ fn agrees(rt: &impl Abort, text: &str) -> bool {
 }
 
 /// A text, so many `g`, and another text.
-fn around(alloc: Global, front: &str, count: usize, behind: &str) -> Result<String, AllocError> {
+fn around(alloc: Global, front: &str, count: usize, after: &str) -> Result<String, AllocError> {
     let amid = "g".repeat(alloc, count)?;
-    format!(in alloc; "{front}{amid}{behind}")
+    format!(in alloc; "{front}{amid}{after}")
 }
 
 /// A bad byte, a lone `%`, a triple and marks at each place of a component, and components of each length: texts that

@@ -3,7 +3,7 @@ ghost use Rattle.std.specs.Prelude.{◌≡◌, ℕ, false, Some, OnOk, OnErr, na
 ghost use Rattle.std.specs.Map.{lookup};
 
 use crate::asserts::same;
-use crate::maps::{map_of, told, value_at};
+use crate::maps::{map_of, state, value_at};
 use crate::row::Row;
 use ref_parts::SmallMap;
 use std::alloc::{AllocError, Global};
@@ -67,12 +67,12 @@ fn a_default_keeps_what_is_there(rt: HostRuntime) -> Result<(), AllocError> {
     map.insert(rt.alloc(), 2, 20)?;
     same(&rt, replace(&mut map, rt.alloc(), 3, 30)?, 0);
     let wanted = (false, [None, Some(10), Some(20), Some(30), None]);
-    same(&rt, told(&map), wanted);
+    same(&rt, state(&map), wanted);
     same(&rt, add_default(&mut map, rt.alloc(), 4), true);
     write_at(&mut map, rt.alloc(), 2, 21)?;
     same(&rt, add_default(&mut map, rt.alloc(), 2), true);
     let wanted = (false, [None, Some(10), Some(21), Some(30), Some(0)]);
-    same(&rt, told(&map), wanted);
+    same(&rt, state(&map), wanted);
     Ok(())
 }
 
@@ -128,9 +128,9 @@ fn a_refused_default_keeps_the_pairs(rt: HostRuntime) {
     let is_added = add_default(&mut map, rt.alloc(), 3);
     let last = if is_added { Some(0) } else { None };
     let wanted = (!is_added, [None, Some(0), Some(20), last, None]);
-    same(&rt, told(&map), wanted);
+    same(&rt, state(&map), wanted);
     same(&rt, add_default(&mut map, rt.alloc(), 2), true);
-    same(&rt, told(&map), wanted);
+    same(&rt, state(&map), wanted);
 }
 
 // A map keeps its pairs where a growth is refused, as the one past its bound and those of a hashed map, and takes them
@@ -141,11 +141,11 @@ fn a_refused_growth_keeps_the_pairs(rt: HostRuntime) -> Result<(), AllocError> {
     let mut map: SmallMap<usize, usize, 2> = SmallMap::new();
     for key in 0..40usize {
         let value = key.saturating_mul(10);
-        let before = told(&map);
+        let before = state(&map);
         let is_refused = map.insert(rt.alloc(), key, value).is_err();
         same(&rt, map.get(&key).is_none(), is_refused);
         if is_refused {
-            same(&rt, (key >= 2, told(&map)), (true, before));
+            same(&rt, (key >= 2, state(&map)), (true, before));
             map.insert(rt.alloc(), key, value)?;
         }
         same(&rt, map.is_small(), key < 2);

@@ -26,7 +26,7 @@ pub const ROWS: &str = r##"
 [[["a",10],["b",20],["c",30]],"d",null,"{\"a\": 10, \"b\": 20, \"c\": 30}"]
 
 # maps with two slots: 5
-// Pairs, and what a map of them tells: whether it is small, and its values at 0 to 4.
+// Pairs, and what a map of them holds: whether it is small, and its values at 0 to 4.
 [[],[true,null,null,null,null,null]]
 [[[1,10],[2,20]],[true,null,10,20,null,null]]
 [[[1,10],[2,20],[2,21]],[true,null,10,21,null,null]]
@@ -39,15 +39,15 @@ pub const ROWS: &str = r##"
 [[[1,10]],[false,null,10,null,null,null]]
 
 # copies: 3
-// Pairs, what a map of them with four slots tells and its copy, what the map tells once 7 is put at 0, and what the
-// copy tells once 40 is put at 4.
+// Pairs, what a map of them with four slots and its copy hold, what the map holds once 7 is put at 0, and what the
+// copy holds once 40 is put at 4.
 [[[0,0],[1,10]],[true,0,10,null,null,null],[true,7,10,null,null,null],[true,0,10,null,null,40]]
 [[[0,0],[1,10],[2,20],[3,30]],[true,0,10,20,30,null],[true,7,10,20,30,null],[false,0,10,20,30,40]]
 [[[0,0],[1,10],[2,20],[3,30],[4,40]],[false,0,10,20,30,40],[false,7,10,20,30,40],[false,0,10,20,30,40]]
 
 # copies of texts: 2
-// Pairs, a key that `other` is put at in the map of them, once it is copied, what the copy tells, and what the map
-// tells: whether it is small, and its texts at `a`, `b` and `c`.
+// Pairs, a key that `other` is put at in the map of them, once it is copied, what the copy holds, and what the map
+// holds: whether it is small, and its texts at `a`, `b` and `c`.
 [[["a","one"],["b","two"]],"a",[true,"one","two",null],[true,"other","two",null]]
 [[["a","one"],["b","two"],["c","three"]],"b",[false,"one","two","three"],[false,"one","other","three"]]
 
@@ -87,7 +87,7 @@ fn copy_of<K: Eq + Hash + Clone + Drop, V: Clone + Drop, const N: usize>(
 }
 
 /// Whether a borrowed key stands for a key.
-fn stands_for<K: Eq + Hash, Q: BorrowedKey<K>>(borrowed: Q, key: &K) -> bool
+fn matches_key<K: Eq + Hash, Q: BorrowedKey<K>>(borrowed: Q, key: &K) -> bool
     ensures { result ≡ Q.is_for borrowed key.now }
 {
     borrowed.is_for(key)
@@ -106,13 +106,13 @@ pub fn is_inline<K: Eq + Hash, V, const N: usize>(map: &SmallMap<K, V, N>) -> bo
 }
 
 #[test]
-fn text_and_keys_stand_for_equal_keys(rt: HostRuntime) -> Result<(), Fail> {
+fn texts_and_keys_match_equal_keys(rt: HostRuntime) -> Result<(), Fail> {
     let key = String::from_str(rt.alloc(), "key")?;
     let missing = String::from_str(rt.alloc(), "missing")?;
-    same(&rt, stands_for("key", &key), true);
-    same(&rt, stands_for("kez", &key), false);
-    same(&rt, stands_for(&key, &key), true);
-    same(&rt, stands_for(&missing, &key), false);
+    same(&rt, matches_key("key", &key), true);
+    same(&rt, matches_key("kez", &key), false);
+    same(&rt, matches_key(&key, &key), true);
+    same(&rt, matches_key(&missing, &key), false);
     Ok(())
 }
 
@@ -157,9 +157,9 @@ fn put_numbers<const N: usize>(
 }
 
 /// Whether a map is small, and its values at 0 to 4.
-pub type Told = (bool, [Option<usize>; 5]);
+pub type State = (bool, [Option<usize>; 5]);
 
-pub fn told<const N: usize>(map: &SmallMap<usize, usize, N>) -> Told {
+pub fn state<const N: usize>(map: &SmallMap<usize, usize, N>) -> State {
     (
         is_inline(map),
         [
@@ -172,8 +172,8 @@ pub fn told<const N: usize>(map: &SmallMap<usize, usize, N>) -> Told {
     )
 }
 
-/// Ends the test where a map tells something else than a column.
-fn assert_tells<const N: usize>(
+/// Ends the test where a map holds something else than a column.
+fn assert_state<const N: usize>(
     rt: &impl Abort,
     map: &SmallMap<usize, usize, N>,
     row: &Row<'_>,
@@ -187,7 +187,7 @@ fn assert_tells<const N: usize>(
         wanted.number(4),
         wanted.number(5),
     ];
-    row.same(rt, told(map), (wanted.is_true(0), values));
+    row.same(rt, state(map), (wanted.is_true(0), values));
 }
 
 /// Of a map with so many slots as this one, which is empty.
@@ -199,11 +199,11 @@ pub fn with_slots<const N: usize>(
 ) -> Result<(), AllocError> {
     let mut map = empty;
     put_numbers(&mut map, alloc, &row.row(0))?;
-    assert_tells(rt, &map, row, 1);
+    assert_state(rt, &map, row, 1);
     Ok(())
 }
 
-/// Ends the test where a map and its copy tell something else, before or after both are changed.
+/// Ends the test where a map and its copy hold something else, before or after both are changed.
 fn assert_copied(
     rt: &impl Abort,
     alloc: Global,
@@ -211,18 +211,18 @@ fn assert_copied(
     row: &Row<'_>,
 ) -> Result<(), AllocError> {
     let mut copy = copy_of(map)?;
-    assert_tells(rt, &copy, row, 1);
+    assert_state(rt, &copy, row, 1);
     map.insert(alloc, 0, 7)?;
     copy.insert(alloc, 4, 40)?;
-    assert_tells(rt, map, row, 2);
-    assert_tells(rt, &copy, row, 3);
+    assert_state(rt, map, row, 2);
+    assert_state(rt, &copy, row, 3);
     Ok(())
 }
 
 pub fn copies(rt: &impl Abort, alloc: Global, row: &Row<'_>) -> Result<(), AllocError> {
     let mut map: SmallMap<usize, usize, 4> = SmallMap::new();
     put_numbers(&mut map, alloc, &row.row(0))?;
-    assert_tells(rt, &map, row, 1);
+    assert_state(rt, &map, row, 1);
     assert_copied(rt, alloc, &mut map, row)
 }
 
@@ -239,15 +239,15 @@ fn put_text(
     map.insert(alloc, key, String::from_str(alloc, text)?)
 }
 
-/// Ends the test where a map tells something else.
-fn assert_texts(rt: &impl Abort, map: &SmallMap<String, String, 2>, told: &Row<'_>) {
-    told.same(rt, is_inline(map), told.is_true(0));
+/// Ends the test where a map holds something else.
+fn assert_texts(rt: &impl Abort, map: &SmallMap<String, String, 2>, wanted: &Row<'_>) {
+    wanted.same(rt, is_inline(map), wanted.is_true(0));
     for (key, column) in [("a", 1usize), ("b", 2), ("c", 3)] {
         let text = match map.get(key) {
             Some(text) => Some(text.as_str()),
             None => None,
         };
-        told.same(rt, text, told.optional(column));
+        wanted.same(rt, text, wanted.optional(column));
     }
 }
 

@@ -83,7 +83,7 @@ fn is_root(node: &JsonPointerNode<'_>) -> bool {
 }
 
 // Whether the node above one is the path of a key after a root, with that key as its segment.
-fn stands_below<'a>(
+fn is_there_below<'a>(
     alloc: Global,
     node: &JsonPointerNode<'a>,
     key: &'a str,
@@ -103,7 +103,7 @@ fn stands_below<'a>(
 fn a_node_has_its_parts_and_is_compared(rt: HostRuntime) -> Result<(), AllocError> {
     let node = item(rt.alloc(), "a")?;
     same(&rt, *node.segment() == JsonPointerSegment::Index(3), true);
-    same(&rt, stands_below(rt.alloc(), &node, "a")?, true);
+    same(&rt, is_there_below(rt.alloc(), &node, "a")?, true);
     same(&rt, is_alike(node.clone(), &node)?, true);
     same(&rt, is_alike(item(rt.alloc(), "a"), &node)?, true);
     same(&rt, is_alike(item(rt.alloc(), "b"), &node)?, false);

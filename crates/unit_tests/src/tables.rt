@@ -57,7 +57,7 @@ pub fn ask<R: Abort>(rt: &R, alloc: Global, row: &Row<'_>) -> Result<(), Fail> {
 fn ask_with_memory<R: Abort>(rt: &R, alloc: Global, row: &Row<'_>) -> Result<(), AllocError> {
     match row.table() {
         "parsed URIs" | "faults" | "faults against bases" | "references without a target" => {
-            uris::told(rt, alloc, row)
+            uris::assert_row(rt, alloc, row)
         }
         "places" => long_texts::places(rt, alloc, row),
         "short texts" => long_texts::short_texts(rt, alloc, row),

@@ -182,7 +182,7 @@ pub fn buffers(rt: &impl Abort, alloc: Global, row: &Row<'_>) -> Result<(), Allo
 }
 
 #[test]
-fn the_greatest_index_is_written_behind_what_the_buffer_holds(
+fn the_greatest_index_is_written_after_what_the_buffer_holds(
     rt: HostRuntime,
 ) -> Result<(), AllocError> {
     let mut buffer = String::from_str(rt.alloc(), "/")?;
@@ -196,13 +196,13 @@ fn the_greatest_index_is_written_behind_what_the_buffer_holds(
 fn assert_found(
     rt: &impl Abort,
     alloc: Global,
-    (escape, behind): (&str, &str),
+    (escape, filler): (&str, &str),
     before: usize,
     after: usize,
 ) -> Result<(), AllocError> {
     let front = ".".repeat(alloc, before)?;
     same(rt, first_escape(front.as_str().as_bytes()), None);
-    let rest = behind.repeat(alloc, after)?;
+    let rest = filler.repeat(alloc, after)?;
     let text = format!(in alloc; "{front}{escape}{rest}")?;
     let found = first_escape(text.as_str().as_bytes());
     same_at(rt, found, Some(before), text.as_str());

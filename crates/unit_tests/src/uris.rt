@@ -1,6 +1,6 @@
 //! References and URIs: the examples of RFC 3986, section 5.4, and what texts mean.
 
-use crate::asserts::{assert_displayed, assert_told, same};
+use crate::asserts::{assert_displayed, assert_result, same};
 use crate::lists::hash_of;
 use crate::row::Row;
 use ref_uri::{ParseError, ResolveError, ResolveFault, Uri, UriError, UriParseFault, UriRef, uri};
@@ -423,13 +423,13 @@ pub fn meaning(alloc: Global, base: &str, text: &str) -> Result<Uri, Fail> {
     Ok(uri::resolve_against(alloc, UriRef::parse(base)?, text)?)
 }
 
-/// Ends the test where a text, or where there is a base a text against it, is told otherwise.
-pub fn told(rt: &impl Abort, alloc: Global, row: &Row<'_>) -> Result<(), AllocError> {
+/// Ends the test where a text, or where there is a base a text against it, gives another result.
+pub fn assert_row(rt: &impl Abort, alloc: Global, row: &Row<'_>) -> Result<(), AllocError> {
     match row.table() {
-        "parsed URIs" => assert_told(rt, alloc, Uri::parse(alloc, row.text(0)), row.text(1)),
-        "faults" => assert_told(rt, alloc, uri::from_str(alloc, row.text(0)), row.text(1)),
+        "parsed URIs" => assert_result(rt, alloc, Uri::parse(alloc, row.text(0)), row.text(1)),
+        "faults" => assert_result(rt, alloc, uri::from_str(alloc, row.text(0)), row.text(1)),
         _ => match UriRef::parse(row.text(0)) {
-            Ok(base) => told_against(rt, alloc, base, row),
+            Ok(base) => assert_against(rt, alloc, base, row),
             Err(_) => {
                 row.same(rt, "no base", row.text(0));
                 Ok(())
@@ -439,7 +439,7 @@ pub fn told(rt: &impl Abort, alloc: Global, row: &Row<'_>) -> Result<(), AllocEr
 }
 
 /// The same of a text against a base.
-fn told_against(
+fn assert_against(
     rt: &impl Abort,
     alloc: Global,
     base: UriRef<'_>,
@@ -447,10 +447,10 @@ fn told_against(
 ) -> Result<(), AllocError> {
     if row.table() == "faults against bases" {
         let answer = uri::resolve_against(alloc, base, row.text(1));
-        return assert_told(rt, alloc, answer, row.text(2));
+        return assert_result(rt, alloc, answer, row.text(2));
     }
     match UriRef::parse(row.text(1)) {
-        Ok(reference) => assert_told(
+        Ok(reference) => assert_result(
             rt,
             alloc,
             reference.resolve_against(alloc, base),

@@ -1,5 +1,5 @@
 -- What an own document of a registry refers to.
-use Rattle.std.specs.Prelude.{ℕ, ◌==◌, Bool, List, codes, filter, if◌then◌else◌, Option, None, option_and_then, Result, Ok}
+use Rattle.std.specs.Prelude.{ℕ, ◌==◌, Bool, List, codes, filter, Option, None, option_and_then, Result, Ok}
 use Rattle.std.specs.List.{filter_map}
 use Rattle.std.specs.Result.{result_ok}
 use Rattle.referencing.specs.Schema.{text_under}
@@ -21,10 +21,6 @@ refers_to p = option_and_then (uri_of p.base) (text_under (codes "$ref") p.value
 -- whether a listed place is one of the document with this number
 abbrev pub is_of : ℕ → Listed → Bool
 is_of document p = p.document == document
-
--- the URI that a listed place refers to, where it is one of the document with this number
-abbrev pub refers_from : ℕ → Listed → Option (List ℕ)
-refers_from document p = if is_of document p then refers_to p else None
 
 -- those that the places of the document with this number refer to, in the order of the places
 abbrev pub referred_by : Layer → ℕ → List (List ℕ)

@@ -1,3 +1,4 @@
 pub mod Uses
 pub mod Validating
 pub mod Bundling
+pub mod inner

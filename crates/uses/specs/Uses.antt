@@ -28,7 +28,7 @@ HasFile files uri tree = Contains (trees_of files) (uri, tree)
 abbrev pub has_file : List (List ℕ × Value) → List ℕ → Bool
 has_file files uri = list_any (λ file. bytes_eq file.0 uri) files
 
--- the text of a refusal for want of a file, where none is under the URI
+-- the text of a refusal where no file is under the URI
 abbrev pub SaysNoFile : List (List ℕ × Value) → List ℕ → List ℕ → Type 0
 SaysNoFile files uri text =
     (has_file files uri ≡ false) × (text ≡ codes "no document under this URI")

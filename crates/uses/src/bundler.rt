@@ -4,7 +4,8 @@ ghost use Rattle.referencing.specs.Reference.{with_fragment};
 ghost use Rattle.referencing.specs.ListedPlaces.{listed_of};
 ghost use Rattle.referencing.specs.Errors.{IsMemory};
 ghost use Rattle.referencing.specs.World.{local_documents};
-ghost use Rattle.uses.specs.Bundling.{refers_to, refers_from, referred_by};
+ghost use Rattle.uses.specs.Bundling.{refers_to, referred_by};
+ghost use Rattle.uses.specs.inner.Referring.{refers_from};
 
 use referencing::{Error, Place, Registry, Uri};
 use serde_json::Value;

@@ -111,9 +111,9 @@ pub fn validated(
     }
     if let Some(found) = referred(alloc, resolver, schema)? {
         let (target, there, draft) = found.into_inner();
-        let behind = validated(alloc, &there, draft, target, instance, depth - 1)?;
-        if !behind.is_valid() {
-            return Ok(behind);
+        let target_result = validated(alloc, &there, draft, target, instance, depth - 1)?;
+        if !target_result.is_valid() {
+            return Ok(target_result);
         }
     }
     let children = draft.walk_children(alloc, schema)?;

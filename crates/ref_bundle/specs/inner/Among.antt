@@ -44,5 +44,6 @@ abbrev pub SaysFirst : {E : Type 0} → Result (Option rust_problem.Problem) E �
 SaysFirst result problems = IfOk result (λ o. option_map problem_said o ≡ first problems)
 
 -- the first of these refusals
-abbrev pub RefusesFirst : {E : Type 0} → Result (Option rust_refusal.Refusal) E → List BundleRefusal → Type 0
+abbrev pub RefusesFirst : {E : Type 0} → Result (Option rust_refusal.Refusal) E
+    → List BundleRefusal → Type 0
 RefusesFirst result refusals = IfOk result (λ o. option_map refusal_said o ≡ first refusals)

@@ -2,7 +2,7 @@
 use Rattle.std.specs.Prelude.{not, ◌&&◌, if◌then◌else◌, Option, Some, None}
 use Rattle.ref_draft.specs.Children.{is_object}
 use Rattle.ref_definitions.specs.World.{Document}
-use Rattle.ref_bundle.specs.Embedding.{Obstacle, NotAnObject, IdentifierBesideRef, NotAnIdentifier, NotKept, UntoldDraft, ResolvedAgain, base_uri, is_beside_ref, has_no_identifier, is_kept, loses_draft, is_resolved_again}
+use Rattle.ref_bundle.specs.Embedding.{Obstacle, NotAnObject, IdentifierBesideRef, NotAnIdentifier, NotKept, UnnamedDraft, ResolvedAgain, base_uri, is_beside_ref, has_no_identifier, is_kept, loses_draft, is_resolved_again}
 
 -- by its tree
 abbrev pub tree_obstacle : Document → Option Obstacle
@@ -17,6 +17,6 @@ abbrev pub uri_obstacle : Document → Document → Option Obstacle
 uri_obstacle top d =
     if not (is_kept (base_uri top) (base_uri d) && is_kept (base_uri d) (base_uri d)) then
     Some (NotKept (base_uri d))
-    else (if loses_draft top.draft d then Some (UntoldDraft d.draft)
+    else (if loses_draft top.draft d then Some (UnnamedDraft d.draft)
     else (if is_resolved_again d then Some ResolvedAgain
     else None))

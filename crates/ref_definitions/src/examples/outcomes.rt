@@ -147,8 +147,8 @@ pub fn closures()
 
 /// What a document was retrieved for, and what holds of a ready layer, of a limit that is used up, and of one outcome alone.
 pub fn retrieved_documents()
-    ensures behind_the_first { IsRetrieved (given_with 2) (refers_to_b ∷ []) b_refers_to_c }
-    ensures behind_the_second { IsRetrieved (given_documents has_b_and_c 2 (refers_to_b ∷ []))
+    ensures after_the_first { IsRetrieved (given_with 2) (refers_to_b ∷ []) b_refers_to_c }
+    ensures after_the_second { IsRetrieved (given_documents has_b_and_c 2 (refers_to_b ∷ []))
         (refers_to_b ∷ b_refers_to_c ∷ []) c_is_true }
     ensures not_twice { ¬ (IsRetrieved (given_with 2)
         (refers_to_b ∷ b_refers_to_c ∷ []) b_refers_to_c) }

@@ -84,13 +84,13 @@ pub fn bases_of_places()
 {}
 
 /// How places follow from each other.
-pub fn places_behind_the_root()
+pub fn places_after_the_root()
     ensures a_child { IsChildOfOne (root (at Draft202012 "http://a/r" (one "not" yes)) ∷ [])
         (place_below "not" yes "http://a/r" "http://a/r") }
     ensures no_child { ¬ (IsChildOfOne [] (root (at Draft202012 "http://a/r" yes))) }
-    ensures behind_the_root { AreChildren (root (at Draft202012 "http://a/r" (one "not" yes)) ∷ [])
+    ensures after_the_root { AreChildren (root (at Draft202012 "http://a/r" (one "not" yes)) ∷ [])
         (place_below "not" yes "http://a/r" "http://a/r" ∷ []) }
-    ensures nothing_behind { AreChildren [] [] }
+    ensures nothing_after { AreChildren [] [] }
 {}
 
 /// Levels of places.

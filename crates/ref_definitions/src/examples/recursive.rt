@@ -5,7 +5,7 @@ ghost use Rattle.std.specs.Prelude.{◌≡◌, true, false, [], ◌∷◌, codes
 ghost use Rattle.serde_json.specs.Data.{boolean};
 ghost use Rattle.ref_draft.specs.declared.draft.Draft.TheVariants.{Draft201909};
 ghost use Rattle.ref_definitions.specs.Fault.{NoSuchAnchor, not_retrieved};
-ghost use Rattle.ref_definitions.specs.Recursive.{is_marked, answers_marked, looked_up, marked_beginning, behind_beginning, unless_fault_behind, outermost_marked, lookup_recursive};
+ghost use Rattle.ref_definitions.specs.Recursive.{is_marked, answers_marked, looked_up, marked_beginning, after_beginning, unless_fault_after, outermost_marked, lookup_recursive};
 ghost use Rattle.ref_definitions.specs.Follow.{Recursive};
 ghost use Rattle.ref_definitions.specs.Rows.{at, world, yes, text, empty, one, two, resolver, found_value, steps, look, answer, refusal, value_of_answer, alone, found_at, value_at, recursive_definitions, through_foo_and_bar};
 
@@ -33,7 +33,7 @@ pub fn beginnings_of_marked_values()
         ∷ Ok (found_value (one "$recursiveAnchor" yes) Draft201909 (resolver "a:3" []))
         ∷ [])
         ≡ Ok (found_value (one "$recursiveAnchor" yes) Draft201909 (resolver "a:1" [])) }
-    ensures fault_behind { outermost_marked (Ok (found_value yes Draft201909 (resolver "a:0" [])))
+    ensures fault_after { outermost_marked (Ok (found_value yes Draft201909 (resolver "a:0" [])))
         (Ok (found_value (one "$recursiveAnchor" yes) Draft201909 (resolver "a:1" []))
         ∷ Err (NoSuchAnchor (codes "n")) ∷ [])
         ≡ Err (NoSuchAnchor (codes "n")) }
@@ -51,17 +51,17 @@ pub fn beginnings_of_marked_values()
     ensures no_beginning { marked_beginning
         (Ok (found_value yes Draft201909 (resolver "a:1" [])) ∷ [])
         ≡ [] }
-    ensures behind { behind_beginning
+    ensures after { after_beginning
         (Ok (found_value (one "$recursiveAnchor" yes) Draft201909 (resolver "a:1" []))
         ∷ Err (NoSuchAnchor (codes "n")) ∷ [])
         ≡ Err (NoSuchAnchor (codes "n")) ∷ [] }
-    ensures nothing_behind { behind_beginning
+    ensures nothing_after { after_beginning
         (Ok (found_value (one "$recursiveAnchor" yes) Draft201909 (resolver "a:1" [])) ∷ [])
         ≡ [] }
-    ensures unless_a_fault { unless_fault_behind (Err (NoSuchAnchor (codes "n")) ∷ [])
+    ensures unless_a_fault { unless_fault_after (Err (NoSuchAnchor (codes "n")) ∷ [])
         (Ok (found_value yes Draft201909 (resolver "a:0" [])))
         ≡ Err (NoSuchAnchor (codes "n")) }
-    ensures unless_no_fault { unless_fault_behind
+    ensures unless_no_fault { unless_fault_after
         (Ok (found_value yes Draft201909 (resolver "a:1" [])) ∷ Err (NoSuchAnchor (codes "n"))
         ∷ [])
         (Ok (found_value empty Draft201909 (resolver "a:0" [])))

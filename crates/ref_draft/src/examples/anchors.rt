@@ -21,9 +21,9 @@ pub fn anchors_of_drafts()
 
 /// Where anchors are.
 pub fn anchors_of_keywords()
-    ensures behind_a_hash { after_hash (codes "#f#") ≡ Some (codes "f#") }
-    ensures behind_a_hash_alone { after_hash (codes "#") ≡ Some [] }
-    ensures behind_no_hash { after_hash (codes "f#") ≡ None }
+    ensures after_a_hash { after_hash (codes "#f#") ≡ Some (codes "f#") }
+    ensures after_a_hash_alone { after_hash (codes "#") ≡ Some [] }
+    ensures after_no_hash { after_hash (codes "f#") ≡ None }
     ensures identifier_of_4 { in_identifier Draft4 (two "$id" (text "#g") "id" (text "#f"))
         ≡ (codes "f", Plain) ∷ [] }
     ensures no_anchor_in_an_identifier { in_identifier Draft7 (one "$id" (text "f")) ≡ [] }

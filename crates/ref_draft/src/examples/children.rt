@@ -4,7 +4,7 @@ ghost use Rattle.serde_json.specs.Data.{object, no_items, item, no_members, memb
 ghost use Rattle.ref_paths.specs.Path.{Index};
 ghost use Rattle.ref_draft.specs.declared.draft.Draft.TheVariants.{Draft4, Draft6, Draft7, Draft201909, Draft202012, Unknown};
 ghost use Rattle.ref_draft.specs.declared.spec.Holding.TheVariants.{Whole, WholeObject, Elements, Members, ElementsOrWhole, ObjectMembers, Nothing};
-ghost use Rattle.ref_draft.specs.Children.{AllStand, whole_child, elements_from, each_member, elements, members, is_object, has_object, held_children, children_below, children, keys_of, InKeyOrder, with_draft, walked_children, keyword_of, is_given, subresources};
+ghost use Rattle.ref_draft.specs.Children.{AllAreThere, whole_child, elements_from, each_member, elements, members, is_object, has_object, held_children, children_below, children, keys_of, InKeyOrder, with_draft, walked_children, keyword_of, is_given, subresources};
 ghost use Rattle.ref_draft.specs.UniqueKeys.{KeysDiffer, HasUniqueKeys, ItemsHaveUniqueKeys, MembersHaveUniqueKeys};
 ghost use Rattle.ref_draft.specs.Rows.{empty, yes, text, one, two, list, pair, key, schema, paths, dependent_schema};
 
@@ -137,6 +137,6 @@ pub fn drafts_and_places_of_children()
         ≡ record { path = key "if" ∷ []; value = yes; draft = Draft202012 }
         ∷ record { path = key "then" ∷ []; value = schema "invalid"; draft = Unknown } ∷ [] }
     ensures none { walked_children Draft202012 yes ≡ [] }
-    ensures standing { AllStand (one "not" yes) (walked_children Draft202012 (one "not" yes)) }
-    ensures not_standing { ¬ (AllStand empty (walked_children Draft202012 (one "not" yes))) }
+    ensures are_at_paths { AllAreThere (one "not" yes) (walked_children Draft202012 (one "not" yes)) }
+    ensures are_elsewhere { ¬ (AllAreThere empty (walked_children Draft202012 (one "not" yes))) }
 {}

@@ -32,8 +32,8 @@ pub fn words_and_items()
     ensures no_parts { SpellsWord Draft202012 [] }
     ensures a_word { SpellsWord Draft202012 (key "$defs" ∷ key "const" ∷ key "not" ∷ Index 0 ∷ []) }
     ensures no_word { ¬ (SpellsWord Draft7 (key "items" ∷ [])) }
-    ensures behind_items { PassesItems Draft7 (key "items" ∷ Index 0 ∷ []) empty }
-    ensures behind_a_word { PassesItems Draft201909
+    ensures after_items { PassesItems Draft7 (key "items" ∷ Index 0 ∷ []) empty }
+    ensures after_a_word { PassesItems Draft201909
         (key "not" ∷ key "dependencies" ∷ key "const" ∷ []) empty }
     ensures not_since_2020 { ¬ (PassesItems Draft202012 (key "items" ∷ []) empty) }
     ensures no_object { ¬ (PassesItems Draft7 (key "items" ∷ []) yes) }

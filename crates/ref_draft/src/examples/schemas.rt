@@ -70,7 +70,7 @@ pub fn identifiers_of_values()
     ensures not_hidden { is_hidden Draft7 empty (codes "k#") ≡ false }
     ensures not_hidden_in_2019 { is_hidden Draft201909 (one "$ref" yes) (codes "#k") ≡ false }
     ensures hash_in_front { begins_with_hash (codes "#k") ≡ true }
-    ensures hash_behind { begins_with_hash (codes "k#") ≡ false }
+    ensures hash_after { begins_with_hash (codes "k#") ≡ false }
     ensures text_of_a_key { text_under (codes "$id") (one "$id" (text "k")) ≡ Some (codes "k") }
     ensures no_text_of_a_key { text_under (codes "$id") (one "$id" (list (text "k"))) ≡ None }
     ensures no_key { text_under (codes "$id") (text "$id") ≡ None }

@@ -26,7 +26,7 @@ fn are_ends(first: u8, last: u8) -> bool
     }
 }
 
-// Whether a text begins and ends as a keyword that holds subschemas does, in any draft. Few other keywords do, so most are told
+// Whether a text begins and ends as a keyword that holds subschemas does, in any draft. Few other keywords do, so most are decided
 // without a comparison of texts.
 #[inline(always)]
 pub(crate) fn may_hold(keyword: &str) -> bool

@@ -3,7 +3,7 @@ ghost use Rattle.std.specs.Prelude.{◌≡◌, ◌++◌, ◌∷◌, [], map, fil
 ghost use Rattle.ref_paths.specs.Path.{Key};
 ghost use Rattle.serde_json.specs.View.{view, items_view, members_view};
 ghost use Rattle.ref_draft.specs.Keywords.{holding_of};
-ghost use Rattle.ref_draft.specs.Children.{AllStand, InKeyOrder, walked_children, with_draft, held_children, elements_from, each_member, has_object};
+ghost use Rattle.ref_draft.specs.Children.{AllAreThere, InKeyOrder, walked_children, with_draft, held_children, elements_from, each_member, has_object};
 ghost use Rattle.ref_draft.specs.inner.WalkSteps.{AreFoundIn, FindsMembersWhere};
 ghost use Rattle.ref_draft.specs.inner.Added.{Adds};
 ghost use Rattle.ref_draft.specs.Views.{segment_parts, walked_child};
@@ -37,7 +37,7 @@ pub(crate) fn children<'a>(
     ensures children { IfOk result
         (λ v. map walked_child v.items ≡ walked_children draft (view contents.now)) }
     ensures order { OnOk result (InKeyOrder (view contents.now)) }
-    ensures found { IfOk result (λ v. AllStand (view contents.now) (map walked_child v.items)) }
+    ensures found { IfOk result (λ v. AllAreThere (view contents.now) (map walked_child v.items)) }
 {
     let mut children = Vec::new(alloc);
     if let Some(schema) = contents.as_object() {

@@ -6,7 +6,8 @@ use Rattle.ref_findings.specs.Findings.{Finding}
 use Rattle.ref_findings.specs.Entries.{IsFindingOf}
 
 -- where the call succeeds, the list says these findings after those that it said before
-abbrev pub Adds : {T E : Type 0} → List rust.Finding → List rust.Finding → Result T E → List Finding → Type 0
+abbrev pub Adds : {T E : Type 0} → List rust.Finding → List rust.Finding → Result T E
+    → List Finding → Type 0
 Adds before after result more =
     (fs : List Finding) → AllZip IsFindingOf before fs
     → OnOk result (AllZip IsFindingOf after (fs ++ more))

@@ -9,7 +9,7 @@ use Rattle.ref_definitions.specs.Resources.{own_uri}
 use Rattle.serde_json.specs.View.{view}
 use Rattle.ref_draft.specs.declared.draft.Draft.{Draft}
 use Rattle.ref_definitions.specs.Places.{Place}
-use Rattle.ref_index.specs.Listed.{ChildrenStandAt}
+use Rattle.ref_index.specs.Listed.{ChildrenAreAt}
 use Rattle.ref_index.specs.Visit.{place_with}
 use Rattle.ref_resolver.specs.Layered.{world_in}
 use Rattle.ref_findings.specs.declared.place.Place as rust
@@ -50,8 +50,8 @@ seen_survey s =
     }
 
 -- the children of each of its places are at their paths
-abbrev pub PlacesStand : rust_survey.Survey → Type 0
-PlacesStand s = AllByRecursion ChildrenStandAt (map place_of s.places.items)
+abbrev pub PlacesAreThere : rust_survey.Survey → Type 0
+PlacesAreThere s = AllByRecursion ChildrenAreAt (map place_of s.places.items)
 
 -- that of a source
 abbrev pub survey_in : Draft → Source → Survey

@@ -59,8 +59,10 @@ pub record IsGoing (retriever : Retriever) (draft : Draft) (sources : List Sourc
   pub state : IsState draft (sources ++ asked) w
 
 -- where a call succeeds, documents that were gathered at the first wants are so at the others, with the one that it returns
-abbrev pub GoesOn : {E : Type 0} → Retriever → Draft → rust.Wants → rust.Wants → Result (Option Held) E → Type 0
+abbrev pub GoesOn : {E : Type 0} → Retriever → Draft → rust.Wants → rust.Wants
+    → Result (Option Held) E → Type 0
 GoesOn retriever draft before after result =
     (sources gathered : List Source) → IsGoing retriever draft sources before gathered
     → IfOk result
-    (λ held. IsGoing retriever draft sources after (gathered ++ option_to_list (option_map held_source held)))
+    (λ held. IsGoing retriever draft sources after
+    (gathered ++ option_to_list (option_map held_source held)))

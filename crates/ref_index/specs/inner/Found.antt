@@ -23,7 +23,7 @@ use Rattle.ref_index.specs.declared.found.Cause.{Cause}
 use Rattle.ref_index.specs.declared.found.Cause.TheVariants.{Reference, MetaSchema}
 use Rattle.ref_index.specs.Entries.{IsEntryOf, kind_of}
 
--- the entry with a number tells a place of the document with this number
+-- the entry with a number describes a place of the document with this number
 abbrev pub IsNumberOf : Layer → List Entry → ℕ → ℕ → Place → Type 0
 IsNumberOf layer entries number n p =
     (e : Entry) × (slice_get entries n ≡ Some e) × IsEntryOf layer e p × (e.document ≡ number)

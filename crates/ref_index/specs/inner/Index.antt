@@ -1,11 +1,11 @@
--- That the tables of an index tell the places of its documents.
+-- That the tables of an index describe the places of its documents.
 use Rattle.std.specs.Prelude.{◌≡◌, ℕ, Bool, true, List, [], Ok}
 use Rattle.std.specs.List.{AllZip, Contains}
 use Rattle.ref_uri.specs.Targets.{uri_against}
 use Rattle.ref_parts.specs.Table as table
 use Rattle.ref_parts.specs.Table.{last_value}
 use Rattle.ref_definitions.specs.World.{Document, Layer}
-use Rattle.ref_definitions.specs.Agreement.{ChildrenStand}
+use Rattle.ref_definitions.specs.Agreement.{ChildrenAreThere}
 use Rattle.ref_definitions.specs.Cached.{Pair, pairs}
 use Rattle.ref_index.specs.declared.entry.Entry.{Entry}
 use Rattle.ref_index.specs.declared.entry.NamedEntry.{NamedEntry}
@@ -34,5 +34,5 @@ pub record IsIndexOf (layer : Layer) (entries : List Entry) (by_uri : List (tabl
   pub resource : AllZip (IsResourceOf layer entries) by_uri (numbered_resources layer)
   pub name : AllZip (IsNameOf layer entries) by_name (numbered_names layer)
   pub pair : AllZip (IsPairIn by_uri) by_pair (pairs layer)
-  pub children : (d : Document) → Contains layer d → ChildrenStand d
+  pub children : (d : Document) → Contains layer d → ChildrenAreThere d
   pub normal : is_normal ≡ true → HaveNormalUris layer

@@ -11,5 +11,6 @@ use Rattle.ref_index.specs.Visit.{place_of}
 pub record IsListedTo (d : Document) (number : ℕ) (before after : List Listed) (queue : List Visit)
     (head : ℕ) : Type 0 where
   pub within : head ≤ length queue
-  pub order : IsQueueBy children_of d (map place_of (take head queue)) (map place_of (drop head queue))
+  pub order : IsQueueBy children_of d (map place_of (take head queue))
+      (map place_of (drop head queue))
   pub list : after ≡ before ++ map (listed_place number) (map place_of (take head queue))

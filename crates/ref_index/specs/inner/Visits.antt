@@ -17,8 +17,8 @@ use Rattle.ref_definitions.specs.Resources.{resource_of}
 use Rattle.ref_definitions.specs.Anchors.{Named, named_under, named_at}
 use Rattle.ref_definitions.specs.Cached.{identifier_pairs_at, reference_pairs_at, identifier_pairs, reference_pairs}
 use Rattle.ref_definitions.specs.Wants.{Want, wants, faults}
-use Rattle.ref_definitions.specs.Agreement.{ChildrenStand}
-use Rattle.ref_draft.specs.Children.{Walked, AllStand, walked_children}
+use Rattle.ref_definitions.specs.Agreement.{ChildrenAreThere}
+use Rattle.ref_draft.specs.Children.{Walked, AllAreThere, walked_children}
 use Rattle.ref_draft.specs.declared.draft.Draft.{Draft}
 use Rattle.ref_index.specs.declared.found.Found.{Found}
 use Rattle.ref_index.specs.declared.queue.Visit.{Visit}
@@ -26,7 +26,7 @@ use Rattle.ref_index.specs.Spots.{with_number, numbered_resources, numbered_name
 use Rattle.ref_index.specs.inner.Found.{FoundLists, Holds, with_resources, with_names, with_wants, with_identifiers, with_references}
 use Rattle.ref_index.specs.Visit.{place_of, value_of}
 use Rattle.ref_index.specs.Faults.{IsFirstFault, faults_of}
-use Rattle.ref_index.specs.Listed.{wants_of, ChildrenStandAt}
+use Rattle.ref_index.specs.Listed.{wants_of, ChildrenAreAt}
 
 -- the URI that a text names a meta-schema by: its fragment takes no part
 abbrev pub meta_schema_uri : List ℕ → Result (List ℕ) Refusal
@@ -43,7 +43,7 @@ RefusesFor faults (Ok done) = faults ≡ []
 RefusesFor faults (Err fault) = IsFirstFault faults fault
 
 -- the place is in the document with this number
-pub record StandsIn (layer : Layer) (number : ℕ) (p : Place) : Type 0 where
+pub record IsThereIn (layer : Layer) (number : ℕ) (p : Place) : Type 0 where
   pub document : Document
   pub numbered : slice_get layer number ≡ Some document
   pub value : value_at document.tree p.path ≡ Some p.value
@@ -80,7 +80,7 @@ Came path base children queue after =
 abbrev pub ChildrenCame : List Part → Data → Draft → List ℕ → List Visit → List Visit → Type 0
 ChildrenCame path value draft base queue after =
     Came path base (walked_children draft value) queue after
-    × AllStand value (walked_children draft value)
+    × AllAreThere value (walked_children draft value)
 
 -- what identifies and names a place is held too, first under a URI of its document, where there is one
 abbrev pub with_meanings : ℕ → Option (List ℕ) → Place → FoundLists → FoundLists
@@ -98,7 +98,7 @@ with_place number under p held =
 -- what was found has that of a place too, and where it is a root under a URI of its document
 abbrev pub AddsPlace : ℕ → Option (List ℕ) → Place → Found → Found → Type 0
 AddsPlace number under p old new =
-    (layer : Layer) (held : FoundLists) → Holds layer old held → StandsIn layer number p
+    (layer : Layer) (held : FoundLists) → Holds layer old held → IsThereIn layer number p
     → Holds layer new (with_place number under p held)
 
 -- all that is found of places of a document too, after what its root is under its URI
@@ -127,7 +127,7 @@ pub record IsVisited (number : ℕ) (under : Option (List ℕ)) (v : Visit) (old
   pub more : List Visit
   pub grown : after ≡ queue ++ more
   pub children : map place_of more ≡ children_of (place_of v)
-  pub stand : AllStand (value_of v.value) (walked_children v.draft (value_of v.value))
+  pub are_there : AllAreThere (value_of v.value) (walked_children v.draft (value_of v.value))
 
 -- Places of a document were visited from the root on: what they are identified by, are named and want was added, none has a
 -- fault, and their children are at their paths.
@@ -135,7 +135,7 @@ pub record IsWalked (d : Document) (number : ℕ) (old new : Found)
     (visited : List Place) : Type 0 where
   pub added : AddsPlaces d number visited old new
   pub faultless : flat_map faults_of visited ≡ []
-  pub children : AllByRecursion ChildrenStandAt visited
+  pub children : AllByRecursion ChildrenAreAt visited
 
 -- all places of a document were visited, or the result says the first of their faults, or is out of memory
 abbrev pub WalksOver : {A : Type 0} → Document → ℕ → Found → Found → Result A UriFault → Type 0
@@ -143,15 +143,16 @@ WalksOver d number old new (Ok done) = IsWalked d number old new (places d)
 WalksOver d number old new (Err fault) = IsFirstFault (flat_map faults_of (places d)) fault
 
 -- each place's value is at its path
-abbrev pub AllStandIn : Document → List Place → Type 0
-AllStandIn d ps = AllByRecursion (λ p. value_at d.tree p.path ≡ Some p.value) ps
+abbrev pub AllAreIn : Document → List Place → Type 0
+AllAreIn d ps = AllByRecursion (λ p. value_at d.tree p.path ≡ Some p.value) ps
 
 -- what holds of the queue before each visit
 pub record IsAt (d : Document) (number : ℕ) (old new : Found) (queue : List Visit)
     (head : ℕ) : Type 0 where
   pub within : head ≤ length queue
-  pub order : IsQueueBy children_of d (map place_of (take head queue)) (map place_of (drop head queue))
-  pub stand : AllStandIn d (map place_of queue)
+  pub order : IsQueueBy children_of d (map place_of (take head queue))
+      (map place_of (drop head queue))
+  pub are_there : AllAreIn d (map place_of queue)
   pub walk : IsWalked d number old new (map place_of (take head queue))
 
 -- all that the documents of a layer have, with these wants
@@ -168,4 +169,4 @@ held_of layer wanted = record {
 pub record IsFound (layer : Layer) (f : Found) : Type 0 where
   pub held : Holds layer f (held_of layer (wants layer))
   pub faultless : faults layer ≡ []
-  pub children : (d : Document) → Contains layer d → ChildrenStand d
+  pub children : (d : Document) → Contains layer d → ChildrenAreThere d

@@ -88,7 +88,8 @@ key_cmp p q = ordering_then (nat_cmp q.0 p.0) (pair_cmp q.1 p.1)
 abbrev pub same_slots : {V : Type 0} → List ℕ → Slot V → Slot V → Bool
 same_slots texts x y =
     (x.word == y.word)
-    && (bytes_eq (pair_of texts x).0 (pair_of texts y).0 && bytes_eq (pair_of texts x).1 (pair_of texts y).1)
+    && (bytes_eq (pair_of texts x).0 (pair_of texts y).0
+    && bytes_eq (pair_of texts x).1 (pair_of texts y).1)
 
 -- the entry with the number of its first text
 abbrev pub slot_with_word : {V : Type 0} → List ℕ → ℕ → Slot V → Slot V
@@ -109,7 +110,8 @@ abbrev pub words_of : {V : Type 0} → List (Slot V) → List ℕ
 words_of slots = map (λ s. s.word) slots
 
 -- the kept entries are those of the last values of the entered ones
-pub record KeepsLast {V : Type 0} (texts : List ℕ) (shared : ℕ) (kept entered : List (Slot V)) : Type 0 where
+pub record KeepsLast {V : Type 0} (texts : List ℕ) (shared : ℕ) (kept entered : List (Slot V))
+    : Type 0 where
   pub sorted : IsStrictlySortedBy (λ x y. key_cmp (key_of texts x) (key_of texts y)) kept
   pub words : All (HasWord texts shared) kept
   pub within : All (IsWithin texts) kept

@@ -1,6 +1,8 @@
 -- What a call has of a place that was looked up.
 use Rattle.std.specs.Prelude.{◌≡◌, ℕ, List, slice_get, Option, option_map, IfSome, None, Some, Ok, refl}
 use Rattle.std.specs.Result.{result_ok}
+use Rattle.std.specs.declared.alloc.Global.{Global}
+use Rattle.std.specs.declared.rc.Rc.{Rc}
 use Rattle.std.specs.Coded.{Coded, coded×, coded_ℕ, coded_list, coded_option}
 use base.Stored.{Coded-set}
 use Rattle.serde_json.specs.Data.{Data}
@@ -9,8 +11,11 @@ use Rattle.ref_draft.specs.declared.draft.Draft.{Draft}
 use Rattle.ref_definitions.specs.World.{Layer, World}
 use Rattle.ref_definitions.specs.Places.{Place}
 use Rattle.ref_definitions.specs.Anchors.{Named}
+use Rattle.ref_definitions.specs.Resources.{meant_place}
 use Rattle.ref_index.specs.Entries.{IsPathOf, kind_of}
 use Rattle.ref_index.specs.Codes.{tree_code, draft_code}
+use Rattle.ref_resolver.specs.Layered.{world_in}
+use Rattle.ref_resolver.specs.declared.layers.Layers.{Layers}
 use Rattle.ref_resolver.specs.declared.located.Located.{Located}
 use Rattle.ref_resolver.specs.declared.located.LocatedName.{LocatedName}
 use Rattle.ref_resolver.specs.declared.located.Numbered.{Numbered}
@@ -38,10 +43,10 @@ abbrev pub IsMeant : Option Place → Located → Type 0
 IsMeant found l = (p : Place) × (found ≡ Some p) × IsLocated l p
 
 -- what is said of a place
-abbrev Told : Type 0
-Told = Data × (Draft × Option (List ℕ))
+abbrev PlaceParts : Type 0
+PlaceParts = Data × (Draft × Option (List ℕ))
 
-abbrev place_parts : Place → Told
+abbrev place_parts : Place → PlaceParts
 place_parts p = (p.value, (p.draft, result_ok p.base))
 
 -- of the place that a URI means, as an equation
@@ -50,15 +55,23 @@ IsKnown found l =
     option_map place_parts found
     ≡ Some (view l.value.now, (l.entry.now.draft, Some l.entry.now.base.value))
 
-told_code : Coded (Option Told)
-told_code =
+parts_code : Coded (Option PlaceParts)
+parts_code =
     coded_option (coded× tree_code (coded× draft_code (coded_option (coded_list coded_ℕ))))
 
 -- which has one proof at most
-pub known_once : (place : Option Located) (found : Option Place)
+known_once : (place : Option Located) (found : Option Place)
     → IsProp (IfSome place (IsKnown found))
 known_once None found = λ _ _. refl
-known_once (Some l) found = Coded-set told_code _ _
+known_once (Some l) found = Coded-set parts_code _ _
+
+-- a place that a resolver keeps, where it keeps one, is the one that its base means
+abbrev pub KnowsPlace : Layers → Rc (List ℕ) Global → Option Located → Type 0
+KnowsPlace layers base place = IfSome place (IsKnown (meant_place (world_in layers) base.value))
+
+pub knows_once : (layers : Layers) (base : Rc (List ℕ) Global) (place : Option Located)
+    → IsProp (KnowsPlace layers base place)
+knows_once layers base place = known_once place (meant_place (world_in layers) base.value)
 
 -- of the place that a URI means in a layer
 abbrev pub IsMeantIn : Layer → Option Place → Located → Type 0

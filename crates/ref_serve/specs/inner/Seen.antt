@@ -6,7 +6,7 @@ use Rattle.ref_definitions.specs.Fault.{Fault}
 use Rattle.ref_definitions.specs.Lookup.{Resolver, Found as WorldFound, lookup}
 use Rattle.ref_definitions.specs.Recursive.{lookup_recursive}
 use Rattle.ref_index.specs.Spots.{Spot}
-use Rattle.ref_resolver.specs.Locations.{StandsAt, lookup_location, recursive_reference, location_view}
+use Rattle.ref_resolver.specs.Locations.{IsValueAt, lookup_location, recursive_reference, location_view}
 use Rattle.ref_serve.specs.declared.asked.Asked.{Asked}
 use Rattle.ref_serve.specs.declared.place.Found.{Found}
 use Rattle.ref_serve.specs.Results as results
@@ -35,4 +35,4 @@ abbrev pub IsFoundBy : World → Option (ℕ × Spot) → Result WorldFound Faul
     → Type 0
 IsFoundBy world at answer f r =
     (answer ≡ Ok (record { value = view f.value.now; draft = f.draft; resolver = r }))
-    × StandsAt world f.location (view f.value.now) × (at ≡ Some (location_view f.location))
+    × IsValueAt world f.location (view f.value.now) × (at ≡ Some (location_view f.location))

@@ -7,7 +7,7 @@ use Rattle.ref_definitions.specs.Fault.{Fault}
 use Rattle.ref_definitions.specs.Lookup.{Found as WorldFound}
 use Rattle.ref_definitions.specs.Follow as world
 use Rattle.ref_index.specs.Spots.{Spot}
-use Rattle.ref_resolver.specs.Locations.{StandsAt, location_view}
+use Rattle.ref_resolver.specs.Locations.{IsValueAt, location_view}
 use Rattle.ref_resolver.specs.Resolving.{resolver_of}
 use Rattle.ref_json.specs.declared.stop.Stop.{Stop}
 use Rattle.ref_json.specs.declared.stop.Stop.TheVariants.{Memory, Because}
@@ -25,7 +25,7 @@ followed_view f =
 
 -- what was found last is at its location
 abbrev pub IsPlaced : World → Followed → Type 0
-IsPlaced w f = IfSome f.last (λ x. StandsAt w x.location (view x.value.now))
+IsPlaced w f = IfSome f.last (λ x. IsValueAt w x.location (view x.value.now))
 
 -- where that is
 abbrev pub placed_at : Followed → Option (ℕ × Spot)

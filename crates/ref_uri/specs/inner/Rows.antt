@@ -21,7 +21,7 @@ use Rattle.ref_uri.specs.inner.Faults.{IfInvalid}
 use Rattle.ref_uri.specs.Components.{components}
 use Rattle.ref_uri.specs.inner.Lengths.{the_lengths, lengths_of, IsParsed, IsParsedUri}
 use Rattle.ref_uri.specs.inner.Removal.{segment_of, first_written, next_written, first_progress, next_progress, path_then, progress_then, path_after, progress_after, slash_of, end_of, ended_path}
-use Rattle.ref_uri.specs.inner.Target.{given_path, normal_path_of, written_path, written_components, lengths_of_components, AreParts, LacksEncodedDot, LosesSameDots, IsTarget, components_of, behind_directory, path_behind, path_with_dots, target_with_dots}
+use Rattle.ref_uri.specs.inner.Target.{given_path, normal_path_of, written_path, written_components, lengths_of_components, AreParts, LacksEncodedDot, LosesSameDots, IsTarget, components_of, after_directory, path_past, path_with_dots, target_with_dots}
 use Rattle.ref_uri.specs.inner.Written.{the_front, the_rest, is_plain, in_case, written_text, written_scheme, written_authority}
 use Rattle.ref_uri.specs.Bytes.{at_sign, colon, question_mark, slash}
 
@@ -29,7 +29,7 @@ pub record BodyRows : Type 0 where
   pub at_in_first_segment : is_first_segment_character at_sign ≡ true
   pub colon_not_in_first_segment : is_first_segment_character colon ≡ false
   pub triple_in_front : begins_with_triple (codes "%7Ea") ≡ true
-  pub triple_behind : begins_with_triple (codes "a%7E") ≡ false
+  pub triple_after : begins_with_triple (codes "a%7E") ≡ false
   pub begins_with_letter : begins_encoded is_name_character (codes "a%") ≡ true
   pub begins_with_percent : begins_encoded is_name_character (codes "%%") ≡ false
   pub authority_ends_here : ends_authority_at (codes "a/b") 1 ≡ true
@@ -55,8 +55,8 @@ pub record BodyRows : Type 0 where
   pub named_segment : segment_of (codes "..g") ≡ removal.Name
   pub name_in_front : first_written removal.Name [] (codes "a") ≡ codes "a"
   pub dots_in_front : first_written DotDot [] (codes "..") ≡ []
-  pub name_behind : next_written removal.Name (codes "/a") (codes "b") ≡ codes "/a/b"
-  pub dots_behind : next_written DotDot (codes "/a/b") (codes "..") ≡ codes "/a"
+  pub name_after : next_written removal.Name (codes "/a") (codes "b") ≡ codes "/a/b"
+  pub dots_past : next_written DotDot (codes "/a/b") (codes "..") ≡ codes "/a"
   pub begun_by_a_name : first_progress removal.Name ≡ Within
   pub not_begun_by_a_dot : first_progress Dot ≡ Front
   pub on_by_a_dot : next_progress Dot ≡ Dots
@@ -70,8 +70,8 @@ pub record BodyRows : Type 0 where
   pub dot_at_the_end : progress_after Front (codes "a" ∷ codes "." ∷ []) ≡ Dots
   pub nothing_came : progress_after Front [] ≡ Front
   pub no_slash_in_front : slash_of Front ≡ []
-  pub slash_behind_a_segment : slash_of Within ≡ codes "/"
-  pub slash_behind_a_dot_segment : slash_of Dots ≡ codes "/"
+  pub slash_after_a_segment : slash_of Within ≡ codes "/"
+  pub slash_after_a_dot_segment : slash_of Dots ≡ codes "/"
   pub slash_at_the_end : end_of Dots ≡ codes "/"
   pub no_slash_at_the_end : end_of Within ≡ []
   pub ended_by_a_dot : ended_path Front [] (codes "a" ∷ codes "." ∷ []) ≡ codes "a/"
@@ -200,11 +200,11 @@ pub record BodyRows : Type 0 where
         rest = path;
       })
       ≡ components []
-  pub behind_a_directory : behind_directory (Some (codes "/a")) (codes "b") ≡ codes "/a/b"
-  pub behind_no_directory : behind_directory None (codes "b") ≡ codes "b"
-  pub path_behind_authority : path_behind (components (codes "http://a")) (codes "b") ≡ codes "/b"
-  pub path_behind_path : path_behind (components (codes "/x/y")) (codes "b") ≡ codes "/x/b"
-  pub path_from_the_root : path_behind (components (codes "/x/y")) (codes "/b") ≡ codes "/b"
+  pub after_a_directory : after_directory (Some (codes "/a")) (codes "b") ≡ codes "/a/b"
+  pub after_no_directory : after_directory None (codes "b") ≡ codes "b"
+  pub path_after_authority : path_past (components (codes "http://a")) (codes "b") ≡ codes "/b"
+  pub path_after_path : path_past (components (codes "/x/y")) (codes "b") ≡ codes "/x/b"
+  pub path_from_the_root : path_past (components (codes "/x/y")) (codes "/b") ≡ codes "/b"
   pub dots_of_the_base : path_with_dots (components (codes "a:/b/../c")) (components (codes "#d"))
       ≡ codes "/b/../c"
   pub dots_of_the_reference : path_with_dots (components (codes "a:/b/c"))

@@ -131,19 +131,19 @@ components_of parts =
     }
 
 -- a path, or a directory, a slash and the path
-abbrev pub behind_directory : Option (List ℕ) → List ℕ → List ℕ
-behind_directory None path = path
-behind_directory (Some directory) path = directory ++ slash ∷ path
+abbrev pub after_directory : Option (List ℕ) → List ℕ → List ℕ
+after_directory None path = path
+after_directory (Some directory) path = directory ++ slash ∷ path
 
 -- a path after the base's, unless it begins with `/` (5.2.2)
-abbrev pub path_behind : Components → List ℕ → List ℕ
-path_behind base path = if slice_index path 0 == slash then path else merged_path base path
+abbrev pub path_past : Components → List ℕ → List ℕ
+path_past base path = if slice_index path 0 == slash then path else merged_path base path
 
 -- a target's path with its dot segments: the reference's, the base's where there is none, or one after the other (5.2.2)
 abbrev pub path_with_dots : Components → Components → List ℕ
 path_with_dots base reference =
     if is_some reference.scheme || is_some reference.authority then reference.path
-    else (if length reference.path == 0 then base.path else path_behind base reference.path)
+    else (if length reference.path == 0 then base.path else path_past base reference.path)
 
 -- the target before the removal of its path's dot segments
 unfoldable pub target_with_dots : Components → Components → Components

@@ -1,7 +1,7 @@
 //! Calls of builders above a registry.
 use crate::refused::documents::{DOCUMENT, META, builder_of, retrieving, title_of, uri, value};
 use crate::refused::stop::{
-    Refusal, Stop, Told, after, before, fault, outcome, outcome_after, refused,
+    Refusal, Shown, Stop, after, before, fault, outcome, outcome_after, refused,
 };
 use crate::refused::trial::{Calls, Trial, tried};
 use ref_error::MapRetriever;
@@ -120,8 +120,8 @@ pub fn marks(alloc: Global, registry: &Registry<'_>) -> Result<String, AllocErro
     Ok(text)
 }
 
-impl Told for Registry<'_> {
-    fn told(&self, alloc: Global) -> Result<String, AllocError> {
+impl Shown for Registry<'_> {
+    fn shown(&self, alloc: Global) -> Result<String, AllocError> {
         marks(alloc, self)
     }
 }
@@ -203,8 +203,8 @@ fn answered(alloc: Global, builder: RegistryBuilder<'_, MapRetriever>) -> Result
 }
 
 /// The title of the last value, and the base there.
-impl Told for Answer {
-    fn told(&self, alloc: Global) -> Result<String, AllocError> {
+impl Shown for Answer {
+    fn shown(&self, alloc: Global) -> Result<String, AllocError> {
         let title = match &self.last {
             Some((value, _)) => title_of(value),
             None => "none",

@@ -1,6 +1,6 @@
 //! Calls of `ref_draft`.
 use crate::refused::documents::value;
-use crate::refused::stop::{Stop, Told, after, outcome, refused};
+use crate::refused::stop::{Shown, Stop, after, outcome, refused};
 use crate::refused::trial::{Calls, Trial, tried};
 use ref_draft::{Child, Draft, Resource, Segment, Segments};
 use ref_parts::path::JsonPointerSegment;
@@ -74,8 +74,8 @@ fn listing(alloc: Global, children: &[Child<'_>]) -> Result<String, AllocError> 
     Ok(text)
 }
 
-impl Told for Vec<Child<'_>> {
-    fn told(&self, alloc: Global) -> Result<String, AllocError> {
+impl Shown for Vec<Child<'_>> {
+    fn shown(&self, alloc: Global) -> Result<String, AllocError> {
         listing(alloc, self.as_slice())
     }
 }
@@ -85,7 +85,7 @@ fn children(alloc: Global, parent: &Value) -> Result<String, Stop> {
 }
 
 /// How many segments there are, and whether the first is the index 3.
-fn told(segments: &Segments<'_>) -> (usize, bool) {
+fn count_and_first(segments: &Segments<'_>) -> (usize, bool) {
     let mut count: usize = 0;
     let mut is_first = false;
     for segment in segments.iter() {
@@ -100,16 +100,16 @@ fn told(segments: &Segments<'_>) -> (usize, bool) {
 fn pushed(alloc: Global, segments: &mut Segments<'_>) -> Result<String, Stop> {
     match segments.push(CowStr::Borrowed("not")) {
         Ok(()) => {
-            let (count, is_first) = told(segments);
+            let (count, is_first) = count_and_first(segments);
             after(format!(in alloc; "{count} {is_first}"))
         }
-        Err(error) => Err(refused(&error, told(segments) == (4, true))),
+        Err(error) => Err(refused(&error, count_and_first(segments) == (4, true))),
     }
 }
 
 /// The draft and the title of a resource.
-impl Told for Resource {
-    fn told(&self, alloc: Global) -> Result<String, AllocError> {
+impl Shown for Resource {
+    fn shown(&self, alloc: Global) -> Result<String, AllocError> {
         let draft = self.draft();
         let title = self.contents().get("title").and_then(Value::as_str);
         let title = title.unwrap_or("none");

@@ -1,6 +1,6 @@
 //! The unresolvable references, of a document that the line gives.
 use crate::refused::documents::{list_of, uri, value};
-use crate::refused::registries::{contained, leading_nowhere};
+use crate::refused::registries::{contained, unresolvable};
 use crate::refused::stop::{Stop, after, before};
 use crate::refused::trial::{Calls, Trial, tried};
 use ref_error::MapRetriever;
@@ -52,10 +52,10 @@ impl Calls for Linted<'_, '_> {
         if call == "known" {
             return contained(alloc, self.registry, "http://a/r");
         }
-        let told = leading_nowhere(alloc, self.registry)?;
-        if told.is_empty() {
+        let found = unresolvable(alloc, self.registry)?;
+        if found.is_empty() {
             return after(String::from_str(alloc, "none"));
         }
-        Ok(told)
+        Ok(found)
     }
 }

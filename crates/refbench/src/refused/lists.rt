@@ -56,7 +56,7 @@ fn in_front(alloc: Global, number: u32, list: &List<u32>) -> Result<List<u32>, A
 }
 
 /// How many items a list has, and their sum.
-fn told(list: &List<u32>) -> (u32, u32) {
+fn count_and_sum(list: &List<u32>) -> (u32, u32) {
     let mut count: u32 = 0;
     let mut sum: u32 = 0;
     for number in list {
@@ -68,7 +68,7 @@ fn told(list: &List<u32>) -> (u32, u32) {
 
 /// Whether a list is that of the number 2.
 fn has_rows(list: &List<u32>) -> bool {
-    !list.is_empty() && told(list) == (1, 2)
+    !list.is_empty() && count_and_sum(list) == (1, 2)
 }
 
 fn longer_list(alloc: Global, list: &List<u32>) -> Result<String, Stop> {
@@ -87,7 +87,7 @@ fn copied_list(alloc: Global, list: &List<u32>) -> Result<String, Stop> {
 }
 
 fn read(alloc: Global, list: &List<u32>) -> Result<String, Stop> {
-    let (count, sum) = told(list);
+    let (count, sum) = count_and_sum(list);
     after(format!(in alloc; "{count} {sum}"))
 }
 
@@ -106,8 +106,8 @@ fn longer_path(alloc: Global, node: &JsonPointerNode<'_>) -> Result<String, Stop
             after(format!(in alloc; "{is_longer}"))
         }
         Err(error) => {
-            let stands = is_key(node.segment()) && node.parent().is_some();
-            Err(refused(&error, stands))
+            let is_at_path = is_key(node.segment()) && node.parent().is_some();
+            Err(refused(&error, is_at_path))
         }
     }
 }

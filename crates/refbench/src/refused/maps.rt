@@ -54,7 +54,7 @@ fn two_pairs(alloc: Global) -> Result<SmallMap<u32, u32, 2>, AllocError> {
 }
 
 /// What a map has at 1, 2 and 3, with 0 where it has nothing, and whether it takes no memory.
-fn told(map: &SmallMap<u32, u32, 2>) -> (u32, u32, u32, bool) {
+fn state_of(map: &SmallMap<u32, u32, 2>) -> (u32, u32, u32, bool) {
     (at(map, 1), at(map, 2), at(map, 3), map.is_small())
 }
 
@@ -64,7 +64,7 @@ fn at(map: &SmallMap<u32, u32, 2>, key: u32) -> u32 {
 
 /// Whether a map has the two pairs, and nothing at 3.
 fn has_two(map: &SmallMap<u32, u32, 2>) -> bool {
-    told(map) == (10, 20, 0, true)
+    state_of(map) == (10, 20, 0, true)
 }
 
 fn promoted(alloc: Global, map: &mut SmallMap<u32, u32, 2>) -> Result<String, Stop> {
@@ -91,12 +91,12 @@ fn promoted_by_default(alloc: Global, map: &mut SmallMap<u32, u32, 2>) -> Result
 fn copied_map(alloc: Global, map: &SmallMap<u32, u32, 2>) -> Result<String, Stop> {
     match map.clone() {
         Ok(copy) => after(format!(in alloc; "{copy:?}")),
-        Err(error) => Err(refused(&error, told(map) == (10, 20, 30, false))),
+        Err(error) => Err(refused(&error, state_of(map) == (10, 20, 30, false))),
     }
 }
 
 fn read(alloc: Global, map: &SmallMap<u32, u32, 2>) -> Result<String, Stop> {
-    let (_, _, third, is_small) = told(map);
+    let (_, _, third, is_small) = state_of(map);
     after(format!(in alloc; "{third} {is_small}"))
 }
 

@@ -9,13 +9,13 @@ mod kinds;
 mod lints;
 mod lists;
 mod maps;
+mod ran_out;
 mod registries;
 mod reports;
 mod resolvers;
 mod retrievers;
 mod stop;
 mod texts;
-mod told;
 mod trial;
 mod uris;
 mod vocabularies;
@@ -38,7 +38,7 @@ const GROUPS: [&str; 13] = [
     "kinds",
     "reports",
     "lints",
-    "told",
+    "ran_out",
 ];
 
 /// Whether a word is the name of a group of calls.
@@ -68,7 +68,7 @@ fn of_registries(alloc: Global, group: &str, call: &str) -> Result<Trial, Stop> 
         "kinds" => kinds::row(alloc, call),
         "reports" => reports::row(alloc, call),
         "lints" => lints::row(alloc, call),
-        "told" => told::row(alloc, call),
+        "ran_out" => ran_out::row(alloc, call),
         _ => Err(Stop::Wrong),
     }
 }

@@ -2,7 +2,7 @@
 use crate::refused::builders::known;
 use crate::refused::documents::{DOCUMENT, META, SUBRESOURCE, retrieving, uri, value};
 use crate::refused::resolvers::{resolver, steps};
-use crate::refused::stop::{Stop, Told, after, before, outcome};
+use crate::refused::stop::{Shown, Stop, after, before, outcome};
 use crate::refused::trial::{Calls, Trial, tried};
 use ref_lint::{Dangling, dangling};
 use ref_uri::Uri;
@@ -108,7 +108,7 @@ fn registry(alloc: Global, registry: &Registry<'_>, call: &str) -> Result<String
         "places" => outcome(alloc, registry.places(alloc)),
         "locate" => located(alloc, registry, "x"),
         "locate nothing" => located(alloc, registry, "z"),
-        "dangling" => leading_nowhere(alloc, registry),
+        "dangling" => unresolvable(alloc, registry),
         "find_vocabularies" => declared(alloc, registry),
         _ => steps(alloc, registry, call),
     }
@@ -119,8 +119,8 @@ pub fn contained(alloc: Global, registry: &Registry<'_>, uri: &str) -> Result<St
     outcome(alloc, registry.contains_resource(alloc, uri))
 }
 
-impl Told for Rc<Uri> {
-    fn told(&self, alloc: Global) -> Result<String, AllocError> {
+impl Shown for Rc<Uri> {
+    fn shown(&self, alloc: Global) -> Result<String, AllocError> {
         String::from_str(alloc, self.as_str())
     }
 }
@@ -163,9 +163,9 @@ fn valued(alloc: Global, registry: &Registry<'_>) -> Result<String, Stop> {
 }
 
 /// How many places there are.
-impl Told for Vec<Place<'_>> {
-    fn told(&self, alloc: Global) -> Result<String, AllocError> {
-        self.len().told(alloc)
+impl Shown for Vec<Place<'_>> {
+    fn shown(&self, alloc: Global) -> Result<String, AllocError> {
+        self.len().shown(alloc)
     }
 }
 
@@ -189,13 +189,13 @@ fn entries(alloc: Global, dangling: &[Dangling<'_>]) -> Result<String, AllocErro
     Ok(text)
 }
 
-impl Told for Vec<Dangling<'_>> {
-    fn told(&self, alloc: Global) -> Result<String, AllocError> {
+impl Shown for Vec<Dangling<'_>> {
+    fn shown(&self, alloc: Global) -> Result<String, AllocError> {
         entries(alloc, self.as_slice())
     }
 }
 
 /// The references of a registry that are unresolvable.
-pub fn leading_nowhere(alloc: Global, registry: &Registry<'_>) -> Result<String, Stop> {
+pub fn unresolvable(alloc: Global, registry: &Registry<'_>) -> Result<String, Stop> {
     outcome(alloc, dangling(alloc, registry))
 }

@@ -59,14 +59,14 @@ fn reported(alloc: Global, sink: &mut MemorySink, request: &str) -> Result<Strin
         return Err(Stop::Wrong);
     }
     match answer {
-        Ok(status) => after(told(alloc, status, sink.bytes.as_slice())),
+        Ok(status) => after(shown(alloc, status, sink.bytes.as_slice())),
         Err(RunError::Memory) => Err(refused(&AllocError, sink.bytes.is_empty())),
         Err(_) => Err(Stop::Wrong),
     }
 }
 
 /// A status, and the lines of a report, each with a bar before it.
-fn told(alloc: Global, status: Status, report: &[u8]) -> Result<String, AllocError> {
+fn shown(alloc: Global, status: Status, report: &[u8]) -> Result<String, AllocError> {
     let mut text = format!(in alloc; "{status:?}")?;
     for line in str::from_utf8(report).unwrap_or("no text").lines() {
         text.push('|')?;

@@ -1,6 +1,6 @@
 //! Calls of resolvers, and steps.
 use crate::refused::documents::{SUBRESOURCE, title_of, uri, value};
-use crate::refused::stop::{Refusal, Stop, Told, after, outcome};
+use crate::refused::stop::{Refusal, Shown, Stop, after, outcome};
 use ref_uri::Uri;
 use referencing::{
     Draft, FollowError, Followed, Location, Registry, Resolved, Resolver, ResourceRef, Step, follow,
@@ -24,7 +24,7 @@ pub fn resolver(alloc: Global, resolver: &Resolver<'_>, call: &str) -> Result<St
         "in_subresource" => entered(alloc, resolver),
         "clone" => outcome(alloc, resolver.clone()),
         "find_vocabularies" => declared(alloc, resolver),
-        "readers" => after(resolver.told(alloc)),
+        "readers" => after(resolver.shown(alloc)),
         "at_base" => based(alloc, resolver),
         _ => Err(Stop::Wrong),
     }
@@ -47,23 +47,23 @@ fn at(alloc: Global, resolver: &Resolver<'_>, text: &str) -> Result<String, Stop
 }
 
 /// The title of what was found with the resolver there.
-impl Told for Resolved<'_> {
-    fn told(&self, alloc: Global) -> Result<String, AllocError> {
+impl Shown for Resolved<'_> {
+    fn shown(&self, alloc: Global) -> Result<String, AllocError> {
         let title = title_of(self.contents());
         let resolver = self.resolver();
         format!(in alloc; "{title} {resolver:?}")
     }
 }
 
-impl Told for Resolver<'_> {
-    fn told(&self, alloc: Global) -> Result<String, AllocError> {
+impl Shown for Resolver<'_> {
+    fn shown(&self, alloc: Global) -> Result<String, AllocError> {
         format!(in alloc; "{self:?}")
     }
 }
 
 /// The layer, the number of the document, and the pointer there.
-impl Told for Location<'_> {
-    fn told(&self, alloc: Global) -> Result<String, AllocError> {
+impl Shown for Location<'_> {
+    fn shown(&self, alloc: Global) -> Result<String, AllocError> {
         let pointer = self.pointer(alloc)?;
         let (layer, document) = (self.layer, self.document);
         format!(in alloc; "{layer} {document} {pointer}")
@@ -71,9 +71,9 @@ impl Told for Location<'_> {
 }
 
 /// The resolver to which steps lead.
-impl Told for Followed<'_> {
-    fn told(&self, alloc: Global) -> Result<String, AllocError> {
-        self.resolver.told(alloc)
+impl Shown for Followed<'_> {
+    fn shown(&self, alloc: Global) -> Result<String, AllocError> {
+        self.resolver.shown(alloc)
     }
 }
 
@@ -118,12 +118,12 @@ fn followed_to_fault(alloc: Global, registry: &Registry<'_>, base: Uri) -> Resul
     let steps = [Step::Lookup("x"), Step::Lookup("#none")];
     match follow(alloc, registry, base, &steps) {
         Ok(_followed) => Err(Stop::Wrong),
-        Err(ended) => told(alloc, &ended),
+        Err(ended) => fault_of_step(alloc, &ended),
     }
 }
 
 /// The number of the step that finds no value, with its fault.
-fn told(alloc: Global, ended: &FollowError) -> Result<String, Stop> {
+fn fault_of_step(alloc: Global, ended: &FollowError) -> Result<String, Stop> {
     let (step, error) = (ended.step, &ended.error);
     if error.is_memory() {
         return Err(Stop::Refused);

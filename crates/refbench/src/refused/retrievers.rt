@@ -1,6 +1,6 @@
 //! Calls of retrievers.
 use crate::refused::documents::{pairs, retriever, title_of, uri};
-use crate::refused::stop::{Stop, Told, outcome, refused};
+use crate::refused::stop::{Shown, Stop, outcome, refused};
 use crate::refused::trial::{Calls, Trial, tried};
 use ref_error::{DefaultRetriever, MapRetriever, Retrieve};
 use ref_uri::Uri;
@@ -57,8 +57,8 @@ fn made(alloc: Global, uri: &Uri) -> Result<String, Stop> {
     }
 }
 
-impl Told for Value {
-    fn told(&self, alloc: Global) -> Result<String, AllocError> {
+impl Shown for Value {
+    fn shown(&self, alloc: Global) -> Result<String, AllocError> {
         String::from_str(alloc, title_of(self))
     }
 }

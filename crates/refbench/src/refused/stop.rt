@@ -108,26 +108,26 @@ impl Refusal for AnswerError {
 }
 
 /// What a call returns.
-pub trait Told {
+pub trait Shown {
     /// What is printed of it.
-    fn told(&self, alloc: Global) -> Result<String, AllocError>;
+    fn shown(&self, alloc: Global) -> Result<String, AllocError>;
 }
 
-impl Told for bool {
-    fn told(&self, alloc: Global) -> Result<String, AllocError> {
+impl Shown for bool {
+    fn shown(&self, alloc: Global) -> Result<String, AllocError> {
         String::from_str(alloc, if *self { "true" } else { "false" })
     }
 }
 
-impl Told for usize {
-    fn told(&self, alloc: Global) -> Result<String, AllocError> {
+impl Shown for usize {
+    fn shown(&self, alloc: Global) -> Result<String, AllocError> {
         format!(in alloc; "{self}")
     }
 }
 
 /// Why a refused call has no answer: only out of memory is right, and only where what it would have changed is as it was.
-pub fn refused<E: Refusal>(refusal: &E, stands: bool) -> Stop {
-    if refusal.is_memory() && stands {
+pub fn refused<E: Refusal>(refusal: &E, is_at_path: bool) -> Stop {
+    if refusal.is_memory() && is_at_path {
         Stop::Refused
     } else {
         Stop::Wrong
@@ -151,23 +151,23 @@ pub fn after(made: Result<String, AllocError>) -> Result<String, Stop> {
 }
 
 /// What is printed of a call's answer, or the text of its fault. Of any kind of answer and of fault, so that it is proved once.
-pub fn outcome<T: Told + Drop, E: Refusal + fmt::Display + Drop>(
+pub fn outcome<T: Shown + Drop, E: Refusal + fmt::Display + Drop>(
     alloc: Global,
     answer: Result<T, E>,
 ) -> Result<String, Stop> {
     match answer {
-        Ok(value) => after(value.told(alloc)),
+        Ok(value) => after(value.shown(alloc)),
         Err(error) => fault(alloc, &error),
     }
 }
 
 /// The same once the call has returned, where only out of memory may be in the way.
-pub fn outcome_after<T: Told + Drop, E: Refusal + Drop>(
+pub fn outcome_after<T: Shown + Drop, E: Refusal + Drop>(
     alloc: Global,
     answer: Result<T, E>,
 ) -> Result<String, Stop> {
     match answer {
-        Ok(value) => after(value.told(alloc)),
+        Ok(value) => after(value.shown(alloc)),
         Err(error) if error.is_memory() => Err(Stop::After),
         Err(_) => Err(Stop::Wrong),
     }

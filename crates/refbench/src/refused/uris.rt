@@ -1,5 +1,5 @@
 //! Calls of `ref_uri`.
-use crate::refused::stop::{Stop, Told, after, before, outcome, refused};
+use crate::refused::stop::{Shown, Stop, after, before, outcome, refused};
 use crate::refused::trial::{Calls, Trial, tried};
 use ref_uri::uri::{from_str, resolve_against};
 use ref_uri::{Uri, UriRef};
@@ -53,8 +53,8 @@ impl Calls for Uris {
     }
 }
 
-impl Told for Uri {
-    fn told(&self, alloc: Global) -> Result<String, AllocError> {
+impl Shown for Uri {
+    fn shown(&self, alloc: Global) -> Result<String, AllocError> {
         String::from_str(alloc, self.as_str())
     }
 }

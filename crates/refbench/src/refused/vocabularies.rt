@@ -1,6 +1,6 @@
 //! Calls of vocabularies.
 use crate::refused::documents::value;
-use crate::refused::stop::{Stop, Told, after, before, fault, outcome, refused};
+use crate::refused::stop::{Shown, Stop, after, before, fault, outcome, refused};
 use crate::refused::trial::{Calls, Trial, tried};
 use ref_draft::Draft;
 use ref_vocabularies::{
@@ -70,8 +70,8 @@ impl Calls for Vocabularies {
 }
 
 /// The URI of a vocabulary that isn't known, and whether another is `core`.
-impl Told for Vocabulary {
-    fn told(&self, alloc: Global) -> Result<String, AllocError> {
+impl Shown for Vocabulary {
+    fn shown(&self, alloc: Global) -> Result<String, AllocError> {
         match self {
             Vocabulary::Custom(uri) => String::from_str(alloc, uri.as_str()),
             _ => {
@@ -82,8 +82,8 @@ impl Told for Vocabulary {
     }
 }
 
-impl Told for VocabularySet {
-    fn told(&self, alloc: Global) -> Result<String, AllocError> {
+impl Shown for VocabularySet {
+    fn shown(&self, alloc: Global) -> Result<String, AllocError> {
         format!(in alloc; "{self:?}")
     }
 }
@@ -102,7 +102,7 @@ fn has(set: &VocabularySet, count: usize) -> bool {
 
 fn copied_set(alloc: Global, set: &VocabularySet) -> Result<String, Stop> {
     match set.clone() {
-        Ok(copy) => after(copy.told(alloc)),
+        Ok(copy) => after(copy.shown(alloc)),
         Err(error) => Err(refused(&error, has(set, 1))),
     }
 }
@@ -110,14 +110,14 @@ fn copied_set(alloc: Global, set: &VocabularySet) -> Result<String, Stop> {
 fn added(alloc: Global, set: &mut VocabularySet, text: &str, count: usize) -> Result<String, Stop> {
     let vocabulary = custom(alloc, text)?;
     match set.add(alloc, vocabulary) {
-        Ok(()) => after(set.told(alloc)),
+        Ok(()) => after(set.shown(alloc)),
         Err(error) => Err(refused(&error, has(set, count))),
     }
 }
 
 fn found(alloc: Global, meta: &Value) -> Result<String, Stop> {
     match find(alloc, meta) {
-        Ok(Some(found)) => after(found.told(alloc)),
+        Ok(Some(found)) => after(found.shown(alloc)),
         Ok(None) => Err(Stop::Wrong),
         Err(error) => fault(alloc, &error),
     }

@@ -17,5 +17,5 @@ append_listed-requires c =
     let same : c.as_slice.result.now ≡ survey.places.items = search rules in
     let vs = map visited_place c.in_ok-noted.noted.items in
     let noted = subst (λ l. (first : Place) (below : List Place) → map place_of l ≡ first ∷ below → AreNoted below vs) same c.in_ok-noted.ensures in
-    let is = listing c.args.draft s (view c.args.value.now) (map place_of survey.places.items) vs c.requires.value sound seen c.requires.stand noted in
+    let is = listing c.args.draft s (view c.args.value.now) (map place_of survey.places.items) vs c.requires.value sound seen c.requires.are_there noted in
     search rules

@@ -1,7 +1,7 @@
 use Rattle.std.proofs.Common.{◌≡◌, List, [], ◌∷◌, map, refl, ap, sym, subst}
 use Rattle.std.specs.List.{AllByRecursion}
 use Rattle.ref_index.proofs.Noting.{all_at}
-use Rattle.ref_findings.specs.inner.Seen.{Survey, PlacesStand, seen_survey, survey_in}
+use Rattle.ref_findings.specs.inner.Seen.{Survey, PlacesAreThere, seen_survey, survey_in}
 use Rattle.ref_findings.proofs.survey.with_sources.Goals as goal
 
 map_same : {A : Type 0} (xs : List A) → map (λ x. x) xs ≡ xs
@@ -12,6 +12,6 @@ pub with_source-requires-clause-survey : goal.with_source-requires-clause-survey
 with_source-requires-clause-survey c =
     all_at (λ (t : Survey). t ≡ survey_in c.args.draft t.source) seen_survey c.args.surveys.now c.loop-survey.survey-index c.survey-item.result c.requires.surveys c.loop-survey-test.true c.survey-item.is
 
-pub with_source-requires-clause-stand : goal.with_source-requires-clause-stand
-with_source-requires-clause-stand c =
-    all_at PlacesStand (λ s. s) c.args.surveys.now c.loop-survey.survey-index c.survey-item.result (subst (AllByRecursion PlacesStand) (sym (map_same c.args.surveys.now)) c.requires.stand) c.loop-survey-test.true c.survey-item.is
+pub with_source-requires-clause-are_there : goal.with_source-requires-clause-are_there
+with_source-requires-clause-are_there c =
+    all_at PlacesAreThere (λ s. s) c.args.surveys.now c.loop-survey.survey-index c.survey-item.result (subst (AllByRecursion PlacesAreThere) (sym (map_same c.args.surveys.now)) c.requires.are_there) c.loop-survey-test.true c.survey-item.is

@@ -4,7 +4,7 @@ use Rattle.std.proofs.lemmas.Option.{slice_get-get_or, slice_get-map}
 use Rattle.std.proofs.lemmas.List.{length-map, map-append, take_all}
 use Rattle.serde_json.specs.View.{view}
 use Rattle.ref_definitions.specs.World.{Document}
-use Rattle.ref_index.specs.Listed.{ChildrenStandAt}
+use Rattle.ref_index.specs.Listed.{ChildrenAreAt}
 use Rattle.ref_findings.specs.Places.{places_near}
 use Rattle.ref_findings.specs.inner.Queue.{IsAt}
 use Rattle.ref_findings.specs.inner.Seen.{place_of}
@@ -40,7 +40,7 @@ loop-head-preserved c =
       subst (λ l. IsAt d l (head + 1)) (sym grown)
           (goes_on d (map place_of queue) (map place_of next.0) head (place_of p) (omega (arith, length-map queue place_of)) (slice_get-map place_of queue head ∙ ap (option_map place_of) here) next.2
           c.loop-head.invariant.0),
-      all_visited ChildrenStandAt queue c.push_below.new.places.items next.0 head p within here next.1 c.loop-head.invariant.1 (c.in_ok-push_below.ensures.stand p here),
+      all_visited ChildrenAreAt queue c.push_below.new.places.items next.0 head p within here next.1 c.loop-head.invariant.1 (c.in_ok-push_below.ensures.are_there p here),
     )
 
 pub returns-clause-value : goal.returns-clause-value
@@ -49,8 +49,8 @@ returns-clause-value c =
     let queue = c.loop-head.places.items in
     ap (map place_of) c.shrink_to_fit.ensures.items ∙ ends d (map place_of queue) c.loop-head.head (omega (arith, length-map queue place_of)) c.loop-head.invariant.0
 
-pub returns-clause-stand : goal.returns-clause-stand
-returns-clause-stand c =
+pub returns-clause-are_there : goal.returns-clause-are_there
+returns-clause-are_there c =
     let queue = c.loop-head.places.items in
-    subst (λ l. AllByRecursion ChildrenStandAt (map place_of l)) (sym c.shrink_to_fit.ensures.items)
-    (subst (λ l. AllByRecursion ChildrenStandAt (map place_of l)) (take_all c.loop-head.head queue (omega arith)) c.loop-head.invariant.1)
+    subst (λ l. AllByRecursion ChildrenAreAt (map place_of l)) (sym c.shrink_to_fit.ensures.items)
+    (subst (λ l. AllByRecursion ChildrenAreAt (map place_of l)) (take_all c.loop-head.head queue (omega arith)) c.loop-head.invariant.1)

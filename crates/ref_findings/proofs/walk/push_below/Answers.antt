@@ -3,7 +3,7 @@ use Rattle.std.proofs.lemmas.Option.{get_or_from_slice_get}
 use Rattle.serde_json.specs.View.{view}
 use Rattle.ref_draft.specs.Children.{walked_children}
 use Rattle.ref_definitions.specs.Places.{base_within, child_place}
-use Rattle.ref_index.specs.Listed.{ChildrenStandAt}
+use Rattle.ref_index.specs.Listed.{ChildrenAreAt}
 use Rattle.ref_index.proofs.Listing.{on_ok}
 use Rattle.ref_findings.specs.Places.{nearest_of, nearest_base, children_near}
 use Rattle.ref_findings.specs.declared.place.Place.{Place}
@@ -23,8 +23,8 @@ returns-clause-added c = λ v at.
     (λ pushed. (pushed.0, pushed.1, pushed.2 ∙ ap (λ l. map (child_place l c.in_ok-base.base.value) children) path ∙ ap (λ b. map (child_place w.path b) children) based))
     c.push_children.ensures.added)
 
-pub returns-clause-stand : goal.returns-clause-stand
-returns-clause-stand c = λ v at.
+pub returns-clause-are_there : goal.returns-clause-are_there
+returns-clause-are_there c = λ v at.
     let w = c.index-place.result.now in
     let same : w ≡ v = c.index-place.ensures ∙ get_or_from_slice_get c.args.places.now.items c.args.number v w at in
-    subst (λ u. OnOk c.push_children.result (ChildrenStandAt (place_of u))) same c.push_children.ensures.stand
+    subst (λ u. OnOk c.push_children.result (ChildrenAreAt (place_of u))) same c.push_children.ensures.are_there

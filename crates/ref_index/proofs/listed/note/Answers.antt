@@ -6,7 +6,7 @@ use Rattle.ref_index.specs.Document.{document_of}
 use Rattle.ref_index.specs.inner.Visits.{AddsPlaces}
 use Rattle.ref_index.specs.Faults.{faults_of}
 use Rattle.ref_index.specs.Visit.{place_of}
-use Rattle.ref_index.proofs.Noting.{memory_alone, noted_faultless, noted_stand, all_at, taken_more, all_walked}
+use Rattle.ref_index.proofs.Noting.{memory_alone, noted_faultless, noted_are_there, all_at, taken_more, all_walked}
 use Rattle.ref_index.proofs.Walking.{adds_root, adds_more}
 use Rattle.ref_index.proofs.listed.note.Goals as goal
 
@@ -36,7 +36,7 @@ loop-place-preserved c =
     let vs = c.args.below.now in
     let i = c.loop-place.place-index in
     let v = c.place-item.result in
-    let at = all_at (λ (p : Place). value_at d.tree p.path ≡ Some p.value) place_of vs i v (noted_stand d (map place_of vs) c.requires).1 c.loop-place-test.true c.place-item.is in
+    let at = all_at (λ (p : Place). value_at d.tree p.path ≡ Some p.value) place_of vs i v (noted_are_there d (map place_of vs) c.requires).1 c.loop-place-test.true c.place-item.is in
     subst (λ l. AddsPlaces d c.args.number (root d ∷ l) c.args.found.now c.settle.new.found) (sym (taken_more vs i v c.loop-place-test.true c.place-item.is))
     (adds_more d c.args.number c.args.found.now c.loop-place.found c.settle.new.found (root d ∷ map place_of (take i vs)) (place_of v) at c.loop-place.invariant c.in_ok-settle.ensures.added)
 

@@ -32,7 +32,7 @@ returns-in_err-add_reference-clause-faults c =
     search rules
 
 pub returns-clause-added : goal.returns-clause-added
-returns-clause-added c = λ layer held holds stands.
+returns-clause-added c = λ layer held holds is_at_path.
     let p = place_of c.args.place.now in
     let under = option_map (λ u. u.now.value) c.args.under in
     let base = c.in_ok-base.base.value in
@@ -43,7 +43,7 @@ returns-clause-added c = λ layer held holds stands.
     let identified = with_identifiers held (identifier_pairs_at p) in
     let kept = subst (λ id. Holds layer c.add_base.new.found (with_identifiers held (pairs_of_identifier outer id))) same (c.in_ok-add_base.ensures layer held holds c.in_ok-base.ensures) in
     let meant = with_meanings c.args.number under p identified in
-    let placed = c.in_ok-add_place.ensures layer identified kept stands same based in
+    let placed = c.in_ok-add_place.ensures layer identified kept is_at_path same based in
     let referring = λ (d : Data). with_wants (with_references meant (pairs_of_value base d)) (wants_of_text Reference (reference_at base d)) in
     let referred = c.in_ok-add_reference.ensures.added layer meant placed in
     let all = c.in_ok-add_meta_schema.ensures.added layer (referring value) referred in

@@ -18,6 +18,6 @@ returns-clause-ok c = λ v at.
       more = pushed.0.0;
       grown = pushed.0.1;
       children = pushed.0.2 ∙ ap (λ b. children_with b (place_of w)) (sym based);
-      stand = pushed.1;
+      are_there = pushed.1;
     } in
     subst (λ u. IsVisited c.args.number (option_map (λ u. u.now.value) c.args.under) u c.args.found.now c.settle.new.found c.args.queue.now.items c.push_children.new.queue.items) same visited

@@ -2,7 +2,7 @@ use Rattle.std.proofs.Common.{◌≡◌, ◌++◌, ◌+◌, ◌/◌, ◌*◌, Li
 use Rattle.std.specs.List.{concat}
 use Rattle.std.specs.Simd.{first_chunks}
 use Rattle.ref_parts.specs.Pointer.{is_escaped, first_escape}
-use Rattle.ref_parts.proofs.ScanLaws.{concat_chunks, length_chunks, some_in_front, some_behind, none_at_all}
+use Rattle.ref_parts.proofs.ScanLaws.{concat_chunks, length_chunks, some_in_front, some_after, none_at_all}
 use Rattle.ref_parts.proofs.escape.first_escape.Goals as goal
 
 -- words and the rest make the text
@@ -27,7 +27,7 @@ returns-in-Some-first_in_rest c =
     let long : length words * 8 ≡ length (concat words) = sym (length_chunks c.args.bytes.now words c.as_chunks.ensures.front) in
     record {
       value = ap (λ n. Some (n + place)) long
-          ∙ some_behind is_escaped (concat words) rest place (sym c.in-None.ensures) (sym c.in-Some-first_in_rest.ensures)
+          ∙ some_after is_escaped (concat words) rest place (sym c.in-None.ensures) (sym c.in-Some-first_in_rest.ensures)
           ∙ ap first_escape (whole c.args.bytes.now rest words c.as_chunks.ensures.front c.as_chunks.ensures.back);
     }
 

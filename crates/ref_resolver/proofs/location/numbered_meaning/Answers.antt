@@ -2,10 +2,10 @@ use Rattle.std.proofs.Common.{◌≡◌, Some, None, Err, MatchOption, sym, subs
 use Rattle.ref_definitions.specs.Anchors.{anchor, named_entry, named_by_identifier, not_named}
 use Rattle.ref_resolver.specs.Layered.{world_in}
 use Rattle.ref_resolver.specs.inner.Located.{IsNameAt, IsNamedAt}
-use Rattle.ref_resolver.proofs.Locating.{anchor_there, anchor_nowhere, anchor_behind}
+use Rattle.ref_resolver.proofs.Locating.{anchor_there, anchor_nowhere, anchor_after}
 use Rattle.ref_index.specs.Spots.{spot_of}
 use Rattle.ref_resolver.specs.Locations.{name_spot, anchor_spot}
-use Rattle.ref_resolver.proofs.Spotting.{if_some, anchor_spot_near, anchor_spot_behind}
+use Rattle.ref_resolver.proofs.Spotting.{if_some, anchor_spot_near, anchor_spot_after}
 use Rattle.ref_resolver.proofs.location.numbered_meaning.Goals as goal
 
 pub returns-in-Some-clause-value : goal.returns-in-Some-clause-value
@@ -29,7 +29,7 @@ returns-in_ok-identified_base-in-None-clause-value c =
     let name = c.args.name.now in
     let found = c.numbered_name-in-None.result in
     let at : named_by_identifier w uri name ≡ named_entry w c.in_ok-identified_base-in-None.field-0.now name = c.in_ok-identified_base-in-None.ensures.value name in
-    anchor_behind (IsNameAt w) w uri name found c.in-None.ensures.value (subst (λ o. MatchOption found (o ≡ None) (IsNamedAt w o)) (sym at) c.numbered_name-in-None.ensures.value)
+    anchor_after (IsNameAt w) w uri name found c.in-None.ensures.value (subst (λ o. MatchOption found (o ≡ None) (IsNamedAt w o)) (sym at) c.numbered_name-in-None.ensures.value)
 
 pub returns-in-Some-clause-spot : goal.returns-in-Some-clause-spot
 returns-in-Some-clause-spot c =
@@ -43,4 +43,4 @@ returns-in_ok-identified_base-in-None-clause-spot c =
     let name = c.args.name.now in
     let base = c.in_ok-identified_base-in-None.field-0.now in
     if_some (λ f. name_spot w base name ≡ Some (f.place.layer, spot_of f.place.place.entry.now)) (λ f. anchor_spot w uri name ≡ Some (f.place.layer, spot_of f.place.place.entry.now)) c.numbered_name-in-None.result
-    (λ f is. anchor_spot_behind w uri name base (f.place.layer, spot_of f.place.place.entry.now) c.in-None.ensures.value c.in_ok-identified_base-in-None.ensures.base is) c.numbered_name-in-None.ensures.spot
+    (λ f is. anchor_spot_after w uri name base (f.place.layer, spot_of f.place.place.entry.now) c.in-None.ensures.value c.in_ok-identified_base-in-None.ensures.base is) c.numbered_name-in-None.ensures.spot

@@ -7,4 +7,4 @@ use Rattle.ref_resolver.proofs.pointed.found.Goals as goal
 pub returns-in-None : goal.returns-in-None
 returns-in-None c =
     let fault = PointerToNowhere c.args.pointer.now in
-    record { gives = says_of (ok_or (option_map (λ v. view v.now) c.args.value) fault) fault c.to_nowhere.result (ap (λ o. ok_or (option_map (λ v. view v.now) o) fault) c.in-None.is) c.to_nowhere.ensures }
+    record { gives = says_of (ok_or (option_map (λ v. view v.now) c.args.value) fault) fault c.no_such_value.result (ap (λ o. ok_or (option_map (λ v. view v.now) o) fault) c.in-None.is) c.no_such_value.ensures }

@@ -1,12 +1,11 @@
 use Rattle.std.proofs.Common.{◌+◌, map, drop, arith, ap, ◌∙◌}
-use Rattle.std.proofs.lemmas.Bool.{false≢true}
 use Rattle.ref_definitions.specs.Follow.{followed_from}
 use Rattle.ref_resolver.specs.Resolving.{resolver_of, world_of}
 use Rattle.referencing.specs.Following.{step_of}
 use Rattle.referencing.proofs.Stepping.{followed_next, followed_stop, followed_end}
 use Rattle.ref_serve.specs.Following.{start_at, place_after}
 use Rattle.ref_serve.specs.inner.Steps.{followed_view, placed_at}
-use Rattle.ref_serve.proofs.Steps.{step_error_is, place_next, place_end}
+use Rattle.ref_serve.proofs.Steps.{place_next, place_end}
 use Rattle.ref_serve.proofs.following.all_followed.Goals as goal
 
 pub loop-number-preserved : goal.loop-number-preserved
@@ -35,6 +34,5 @@ returns-in-Err-clause-error c =
     let l = c.loop-number in
     let w = world_of c.args.start in
     let whole = followed_from w 0 (start_at (resolver_of c.args.start)) (map step_of c.args.steps.now) in
-    step_error_is whole l.number c.in-Err.error c.in_ok-step_error-in-Err.field-0
+    c.step_stop.ensures whole
     (followed_stop w l.number (followed_view l.followed) c.args.steps.now c.index-steps-number.result c.in-Err.error whole c.loop-number-test.true c.index-steps-number.is l.invariant.0 (rw l.invariant.1 at c.in-Err.ensures.gives))
-    (λ m. false≢true (c.in_ok-step_error-in-Err.ensures.memory m)) c.in_ok-step_error-in-Err.ensures.error

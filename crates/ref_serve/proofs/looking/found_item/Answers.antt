@@ -1,7 +1,8 @@
 use Rattle.std.proofs.Common.{Ok, Err, refl}
 use Rattle.serde_json.specs.View.{view}
 use Rattle.ref_resolver.specs.Resolving.{resolver_of as resolver_view}
-use Rattle.ref_serve.specs.Results.{IsLookedUp, IsListedAs, reference_in}
+use Rattle.ref_serve.specs.Results.{IsLookedUp, reference_in}
+use Rattle.ref_serve.specs.inner.Giving.{IsListedAs}
 use Rattle.ref_serve.specs.inner.Seen.{asked_view}
 use Rattle.ref_serve.proofs.Giving.{then_ok}
 use Rattle.ref_serve.proofs.looking.found_item.Goals as goal

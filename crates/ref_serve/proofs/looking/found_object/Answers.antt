@@ -1,19 +1,11 @@
-use Rattle.std.proofs.Common.{◌≡◌, ◌∙◌, rules}
-use Rattle.serde_json.specs.Data.{no_members}
-use Rattle.serde_json.specs.View.{view, members_view}
+use Rattle.std.proofs.Common.{rules}
 use Rattle.ref_resolver.specs.Resolving.{resolver_of as resolver_view}
-use Rattle.ref_serve.specs.Results.{found_members, resolver_members}
 use Rattle.ref_serve.specs.inner.Seen.{asked_view}
-use Rattle.serde_json.proofs.Views.{view-Object}
-use Rattle.ref_serve.proofs.Giving.{found_as, in_two_steps}
+use Rattle.ref_serve.proofs.Giving.{found_as}
 use Rattle.ref_serve.proofs.looking.found_object.Goals as goal
 
 pub returns-clause-ok : goal.returns-clause-ok
 returns-clause-ok c =
-    let asked = asked_view c.args.asked.now in
     let found = c.in_ok-found.found in
     let next = resolver_view c.in_ok-found.next in
-    let none : members_view c.new-members.result.entries ≡ no_members = search rules in
-    found_as asked _ _ found next _ (search rules)
-    (view-Object c.put_resolver.new.members ∙ in_two_steps (found_members asked found.location (view found.value.now) found.draft) (resolver_members next) (members_view c.new-members.result.entries) (members_view c.put_found.new.members.entries)
-    (members_view c.put_resolver.new.members.entries) none c.in_ok-put_found.ensures c.in_ok-put_resolver.ensures)
+    found_as (asked_view c.args.asked.now) _ _ found next _ (search rules) c.in_ok-located_object.ensures

@@ -7,7 +7,7 @@ use Rattle.ref_uri.specs.Characters.{is_encoded, is_userinfo_character}
 use Rattle.ref_uri.specs.Authority.{is_port_part, is_address_and_bracket, is_host_and_port}
 use Rattle.ref_uri.specs.Components.{ends_authority}
 use Rattle.ref_uri.specs.inner.Scans.{ends_authority_at}
-use Rattle.ref_uri.proofs.HostLemmas.{brackets_accepted, brackets_inside, brackets_none, port_inside, port_behind}
+use Rattle.ref_uri.proofs.HostLemmas.{brackets_accepted, brackets_inside, brackets_none, port_inside, port_after}
 use Rattle.ref_uri.proofs.authority.brackets_and_port_len.Goals as goal
 
 pub returns-in_err-brackets-clause-none : goal.returns-in_err-brackets-clause-none
@@ -40,6 +40,6 @@ returns-clause-accepted c =
     let text = c.args.text.now in
     let brackets = 1 + c.in_ok-brackets.field-0 in
     let inner = brackets_inside text c.in_ok-brackets.field-0 c.requires (within c) (sound c) in
-    port_behind text brackets c.port_len.result (omega (arith, inner, prefix_len-le-length (λ x. not (ends_authority x)) text)) inner
+    port_after text brackets c.port_len.result (omega (arith, inner, prefix_len-le-length (λ x. not (ends_authority x)) text)) inner
     (subst (λ (l : List ℕ). ends_authority_at l c.port_len.result ≡ is_port_part (before_first ends_authority l)) (take_rest text brackets) c.port_len.ensures.accepted)
     ∙ brackets_accepted text c.in_ok-brackets.field-0 c.requires (within c) (sound c)

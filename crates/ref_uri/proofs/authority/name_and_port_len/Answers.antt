@@ -5,7 +5,7 @@ use Rattle.ref_uri.specs.Characters.{is_encoded, is_userinfo_character}
 use Rattle.ref_uri.specs.Authority.{is_port_part}
 use Rattle.ref_uri.specs.Components.{ends_authority}
 use Rattle.ref_uri.specs.inner.Scans.{ends_authority_at}
-use Rattle.ref_uri.proofs.HostLemmas.{name_accepted, name_is_userinfo, encoded_joined, encoded_inside, port_behind}
+use Rattle.ref_uri.proofs.HostLemmas.{name_accepted, name_is_userinfo, encoded_joined, encoded_inside, port_after}
 use Rattle.ref_uri.proofs.authority.name_and_port_len.Goals as goal
 
 within : (c : goal.After-port_len) → c.encoded_len-name.result + c.port_len.result ≤ length c.args.text.now
@@ -27,7 +27,7 @@ returns-clause-accepted c =
     let name = c.encoded_len-name.result in
     let run = c.encoded_len-name.ensures in
     let port = subst (λ (l : List ℕ). ends_authority_at l c.port_len.result ≡ is_port_part (before_first ends_authority l)) (take_rest text name) c.port_len.ensures.accepted in
-    port_behind text name c.port_len.result run.within (encoded_inside text name run.within (name_is_userinfo (take name text) run.encoded)) port
+    port_after text name c.port_len.result run.within (encoded_inside text name run.within (name_is_userinfo (take name text) run.encoded)) port
     ∙ name_accepted text name c.requires run.within run.encoded run.longest
 
 pub returns-clause-inside : goal.returns-clause-inside

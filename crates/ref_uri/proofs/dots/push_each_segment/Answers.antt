@@ -7,7 +7,7 @@ use Rattle.ref_uri.specs.DotSegments.{segments}
 use Rattle.ref_uri.specs.inner.Written.{written_text}
 use Rattle.ref_uri.specs.inner.Removal.{path_then, progress_then, path_after, progress_after}
 use Rattle.ref_uri.proofs.LastSlash.{is_slash}
-use Rattle.ref_uri.proofs.NormalLemmas.{whole_behind}
+use Rattle.ref_uri.proofs.NormalLemmas.{whole_after}
 use Rattle.ref_uri.proofs.SegmentLemmas.{segments_are_whole}
 use Rattle.ref_uri.proofs.GivenSegments.{cut_off, whole_segment, left_on}
 use Rattle.ref_uri.proofs.dots.push_each_segment.Goals as goal
@@ -35,7 +35,7 @@ segments-preserved c =
       c.in_ok-progress.ensures.start,
       c.tail-rest.ensures.ascii,
       ap has_whole_triples c.tail-rest.ensures.value
-          ∙ whole_behind (take (len + 1) rest) behind (ap has_whole_triples (take-append-drop (len + 1) rest) ∙ inv.4),
+          ∙ whole_after (take (len + 1) rest) behind (ap has_whole_triples (take-append-drop (len + 1) rest) ∙ inv.4),
       c.index_of-len-in-segments.ensures.value ∙ ap (position_or_len is_slash) c.as_bytes-in-segments.ensures.value,
       c.tail-rest.utf8,
     )

@@ -43,57 +43,57 @@ returns-in_err-front-clause-accepted c =
 -- the first bytes of the path that were read
 pub part_len-requires-clause-read_within : goal.part_len-requires-clause-read_within
 part_len-requires-clause-read_within c =
-    let one = scheme_gone c.args.text.now c.behind-rest.result.now c.in_ok-front.front.scheme c.in_ok-front.ensures.scheme c.behind-rest.ensures in
-    let two = authority_gone c.args.text.now c.behind-rest.result.now c.behind-rest-2.result.now c.in_ok-authority.authority one c.in_ok-authority.ensures.len c.behind-rest-2.ensures in
+    let one = scheme_gone c.args.text.now c.after_component-rest.result.now c.in_ok-front.front.scheme c.in_ok-front.ensures.scheme c.after_component-rest.ensures in
+    let two = authority_gone c.args.text.now c.after_component-rest.result.now c.after_component-rest-2.result.now c.in_ok-authority.authority one c.in_ok-authority.ensures.len c.after_component-rest-2.ensures in
     subst (λ (t : List ℕ). c.in_ok-front.front.segment ≤ length t) (sym two) c.in_ok-front.ensures.within
 
 pub part_len-requires-clause-read_encoded : goal.part_len-requires-clause-read_encoded
 part_len-requires-clause-read_encoded c =
-    let one = scheme_gone c.args.text.now c.behind-rest.result.now c.in_ok-front.front.scheme c.in_ok-front.ensures.scheme c.behind-rest.ensures in
-    let two = authority_gone c.args.text.now c.behind-rest.result.now c.behind-rest-2.result.now c.in_ok-authority.authority one c.in_ok-authority.ensures.len c.behind-rest-2.ensures in
+    let one = scheme_gone c.args.text.now c.after_component-rest.result.now c.in_ok-front.front.scheme c.in_ok-front.ensures.scheme c.after_component-rest.ensures in
+    let two = authority_gone c.args.text.now c.after_component-rest.result.now c.after_component-rest-2.result.now c.in_ok-authority.authority one c.in_ok-authority.ensures.len c.after_component-rest-2.ensures in
     subst (λ (t : List ℕ). is_encoded is_path_character (take c.in_ok-front.front.segment t) ≡ true) (sym two) c.in_ok-front.ensures.encoded
 
 pub returns-in_err-authority-clause-accepted : goal.returns-in_err-authority-clause-accepted
 returns-in_err-authority-clause-accepted c =
-    let one = scheme_gone c.args.text.now c.behind-rest.result.now c.in_ok-front.front.scheme c.in_ok-front.ensures.scheme c.behind-rest.ensures in
-    refusal _ _ c.from_residual-in_err-authority.ensures.0 (no_authority c.args.text.now (authority_tested c.args.text.now c.behind-rest.result.now one ∙ sym c.in_err-authority.ensures.accepted))
+    let one = scheme_gone c.args.text.now c.after_component-rest.result.now c.in_ok-front.front.scheme c.in_ok-front.ensures.scheme c.after_component-rest.ensures in
+    refusal _ _ c.from_residual-in_err-authority.ensures.0 (no_authority c.args.text.now (authority_tested c.args.text.now c.after_component-rest.result.now one ∙ sym c.in_err-authority.ensures.accepted))
 
 pub returns-in_err-path-clause-accepted : goal.returns-in_err-path-clause-accepted
 returns-in_err-path-clause-accepted c =
-    let one = scheme_gone c.args.text.now c.behind-rest.result.now c.in_ok-front.front.scheme c.in_ok-front.ensures.scheme c.behind-rest.ensures in
-    let two = authority_gone c.args.text.now c.behind-rest.result.now c.behind-rest-2.result.now c.in_ok-authority.authority one c.in_ok-authority.ensures.len c.behind-rest-2.ensures in
-    refusal _ _ c.from_residual-in_err-path.ensures.0 (no_path c.args.text.now (path_tested c.args.text.now c.behind-rest-2.result.now two ∙ sym c.in_err-path.ensures.accepted))
+    let one = scheme_gone c.args.text.now c.after_component-rest.result.now c.in_ok-front.front.scheme c.in_ok-front.ensures.scheme c.after_component-rest.ensures in
+    let two = authority_gone c.args.text.now c.after_component-rest.result.now c.after_component-rest-2.result.now c.in_ok-authority.authority one c.in_ok-authority.ensures.len c.after_component-rest-2.ensures in
+    refusal _ _ c.from_residual-in_err-path.ensures.0 (no_path c.args.text.now (path_tested c.args.text.now c.after_component-rest-2.result.now two ∙ sym c.in_err-path.ensures.accepted))
 
 pub returns-in_err-query-clause-accepted : goal.returns-in_err-query-clause-accepted
 returns-in_err-query-clause-accepted c =
-    let one = scheme_gone c.args.text.now c.behind-rest.result.now c.in_ok-front.front.scheme c.in_ok-front.ensures.scheme c.behind-rest.ensures in
-    let two = authority_gone c.args.text.now c.behind-rest.result.now c.behind-rest-2.result.now c.in_ok-authority.authority one c.in_ok-authority.ensures.len c.behind-rest-2.ensures in
-    let three = path_gone c.args.text.now c.behind-rest-2.result.now c.split_at.result.1.now c.in_ok-path.path two c.in_ok-path.ensures.len c.split_at.ensures.back in
+    let one = scheme_gone c.args.text.now c.after_component-rest.result.now c.in_ok-front.front.scheme c.in_ok-front.ensures.scheme c.after_component-rest.ensures in
+    let two = authority_gone c.args.text.now c.after_component-rest.result.now c.after_component-rest-2.result.now c.in_ok-authority.authority one c.in_ok-authority.ensures.len c.after_component-rest-2.ensures in
+    let three = path_gone c.args.text.now c.after_component-rest-2.result.now c.split_at.result.1.now c.in_ok-path.path two c.in_ok-path.ensures.len c.split_at.ensures.back in
     refusal _ _ c.from_residual-in_err-query.ensures.0 (no_query c.args.text.now (query_tested c.args.text.now c.split_at.result.1.now three ∙ sym c.in_err-query.ensures.accepted))
 
 pub returns-then-not-is_fragment_left-clause-accepted : goal.returns-then-not-is_fragment_left-clause-accepted
 returns-then-not-is_fragment_left-clause-accepted c =
-    let one = scheme_gone c.args.text.now c.behind-rest.result.now c.in_ok-front.front.scheme c.in_ok-front.ensures.scheme c.behind-rest.ensures in
-    let two = authority_gone c.args.text.now c.behind-rest.result.now c.behind-rest-2.result.now c.in_ok-authority.authority one c.in_ok-authority.ensures.len c.behind-rest-2.ensures in
-    let three = path_gone c.args.text.now c.behind-rest-2.result.now c.split_at.result.1.now c.in_ok-path.path two c.in_ok-path.ensures.len c.split_at.ensures.back in
-    let four = query_gone c.args.text.now c.split_at.result.1.now c.behind.result.now c.in_ok-query.query three c.in_ok-query.ensures.len c.behind.ensures in
-    sym (no_fragment c.args.text.now (fragment_tested c.args.text.now c.behind.result.now four ∙ sym c.is_fragment_left.ensures ∙ c.if-not-is_fragment_left.true))
+    let one = scheme_gone c.args.text.now c.after_component-rest.result.now c.in_ok-front.front.scheme c.in_ok-front.ensures.scheme c.after_component-rest.ensures in
+    let two = authority_gone c.args.text.now c.after_component-rest.result.now c.after_component-rest-2.result.now c.in_ok-authority.authority one c.in_ok-authority.ensures.len c.after_component-rest-2.ensures in
+    let three = path_gone c.args.text.now c.after_component-rest-2.result.now c.split_at.result.1.now c.in_ok-path.path two c.in_ok-path.ensures.len c.split_at.ensures.back in
+    let four = query_gone c.args.text.now c.split_at.result.1.now c.after_component.result.now c.in_ok-query.query three c.in_ok-query.ensures.len c.after_component.ensures in
+    sym (no_fragment c.args.text.now (fragment_tested c.args.text.now c.after_component.result.now four ∙ sym c.is_fragment_left.ensures ∙ c.if-not-is_fragment_left.true))
 
 pub returns-clause-accepted : goal.returns-clause-accepted
 returns-clause-accepted c =
-    let one = scheme_gone c.args.text.now c.behind-rest.result.now c.in_ok-front.front.scheme c.in_ok-front.ensures.scheme c.behind-rest.ensures in
-    let two = authority_gone c.args.text.now c.behind-rest.result.now c.behind-rest-2.result.now c.in_ok-authority.authority one c.in_ok-authority.ensures.len c.behind-rest-2.ensures in
-    let three = path_gone c.args.text.now c.behind-rest-2.result.now c.split_at.result.1.now c.in_ok-path.path two c.in_ok-path.ensures.len c.split_at.ensures.back in
-    let four = query_gone c.args.text.now c.split_at.result.1.now c.behind.result.now c.in_ok-query.query three c.in_ok-query.ensures.len c.behind.ensures in
+    let one = scheme_gone c.args.text.now c.after_component-rest.result.now c.in_ok-front.front.scheme c.in_ok-front.ensures.scheme c.after_component-rest.ensures in
+    let two = authority_gone c.args.text.now c.after_component-rest.result.now c.after_component-rest-2.result.now c.in_ok-authority.authority one c.in_ok-authority.ensures.len c.after_component-rest-2.ensures in
+    let three = path_gone c.args.text.now c.after_component-rest-2.result.now c.split_at.result.1.now c.in_ok-path.path two c.in_ok-path.ensures.len c.split_at.ensures.back in
+    let four = query_gone c.args.text.now c.split_at.result.1.now c.after_component.result.now c.in_ok-query.query three c.in_ok-query.ensures.len c.after_component.ensures in
     sym (all_there c.args.text.now c.in_ok-front.ensures.tested
-    (authority_tested c.args.text.now c.behind-rest.result.now one ∙ sym c.in_ok-authority.ensures.accepted)
-    (path_tested c.args.text.now c.behind-rest-2.result.now two ∙ sym c.in_ok-path.ensures.accepted)
+    (authority_tested c.args.text.now c.after_component-rest.result.now one ∙ sym c.in_ok-authority.ensures.accepted)
+    (path_tested c.args.text.now c.after_component-rest-2.result.now two ∙ sym c.in_ok-path.ensures.accepted)
     (query_tested c.args.text.now c.split_at.result.1.now three ∙ sym c.in_ok-query.ensures.accepted)
-    (fragment_tested c.args.text.now c.behind.result.now four ∙ sym c.is_fragment_left.ensures ∙ c.if-not-is_fragment_left.false))
+    (fragment_tested c.args.text.now c.after_component.result.now four ∙ sym c.is_fragment_left.ensures ∙ c.if-not-is_fragment_left.false))
 
 pub returns-clause-lengths : goal.returns-clause-lengths
 returns-clause-lengths c =
-    let one = scheme_gone c.args.text.now c.behind-rest.result.now c.in_ok-front.front.scheme c.in_ok-front.ensures.scheme c.behind-rest.ensures in
-    let two = authority_gone c.args.text.now c.behind-rest.result.now c.behind-rest-2.result.now c.in_ok-authority.authority one c.in_ok-authority.ensures.len c.behind-rest-2.ensures in
-    let three = path_gone c.args.text.now c.behind-rest-2.result.now c.split_at.result.1.now c.in_ok-path.path two c.in_ok-path.ensures.len c.split_at.ensures.back in
-    lengths_are c.args.text.now c.behind-rest.result.now c.behind-rest-2.result.now c.split_at.result.1.now c.in_ok-front.front.scheme c.in_ok-authority.authority c.in_ok-query.query c.in_ok-path.path one two three c.in_ok-front.ensures.scheme c.in_ok-authority.ensures.len c.in_ok-path.ensures.len c.in_ok-query.ensures.len
+    let one = scheme_gone c.args.text.now c.after_component-rest.result.now c.in_ok-front.front.scheme c.in_ok-front.ensures.scheme c.after_component-rest.ensures in
+    let two = authority_gone c.args.text.now c.after_component-rest.result.now c.after_component-rest-2.result.now c.in_ok-authority.authority one c.in_ok-authority.ensures.len c.after_component-rest-2.ensures in
+    let three = path_gone c.args.text.now c.after_component-rest-2.result.now c.split_at.result.1.now c.in_ok-path.path two c.in_ok-path.ensures.len c.split_at.ensures.back in
+    lengths_are c.args.text.now c.after_component-rest.result.now c.after_component-rest-2.result.now c.split_at.result.1.now c.in_ok-front.front.scheme c.in_ok-authority.authority c.in_ok-query.query c.in_ok-path.path one two three c.in_ok-front.ensures.scheme c.in_ok-authority.ensures.len c.in_ok-path.ensures.len c.in_ok-query.ensures.len

@@ -4,13 +4,13 @@ use Rattle.ref_uri.specs.Characters.{is_path_character}
 use Rattle.ref_uri.specs.Components.{is_query, if_there}
 use Rattle.ref_uri.specs.DotSegments.{remove_dot_segments}
 use Rattle.ref_uri.specs.Normal.{guarded_path, normal_components, normal_text}
-use Rattle.ref_uri.specs.inner.Target.{components_of, written_path, path_behind}
+use Rattle.ref_uri.specs.inner.Target.{components_of, written_path, path_past}
 use Rattle.ref_uri.specs.inner.Written.{is_plain, the_front, the_rest}
 use Rattle.std.specs.Str.{IsAscii}
 use Rattle.ref_uri.specs.declared.written.Form.TheVariants.{Given, Normal}
 use Rattle.ref_uri.proofs.AsciiLemmas.{encoded_ascii, IsAscii-from_all_ascii}
 use Rattle.ref_uri.proofs.UniqueLemmas.{tested}
-use Rattle.ref_uri.proofs.NormalTargets.{normal_parts_are, dots_with_scheme, dots_with_authority, dots_of_base, dots_behind}
+use Rattle.ref_uri.proofs.NormalTargets.{normal_parts_are, dots_with_scheme, dots_with_authority, dots_of_base, dots_past}
 use Rattle.ref_uri.proofs.TargetLemmas.{of_that, not_there, resolved_of_scheme, resolved_of_authority, resolved_of_base, resolved_path, none_there, still_there, or_there, or_is_query_or, as_given, the_components}
 use Rattle.ref_uri.proofs.target.resolved.Goals as goal
 
@@ -39,8 +39,8 @@ returns-then-is_empty-clause-target c =
       rest_test = λ x e. absurd (not_there x e);
     }
 
-pub path_behind-requires : goal.path_behind-requires
-path_behind-requires c =
+pub path_past-requires : goal.path_past-requires
+path_past-requires c =
     let b = tested (components_of c.args.base) c.requires.base in
     IsAscii-from_all_ascii c.args.base.path.now (encoded_ascii is_path_character (λ d k. grind (arith, nat_tests)) c.args.base.path.now b.path_test)
 
@@ -51,7 +51,7 @@ returns-clause-target c =
     record {
       scheme_test = b.scheme_test;
       authority_test = b.authority_test;
-      path_test = c.path_behind.ensures.parts b.path_test t.path_test;
+      path_test = c.path_past.ensures.parts b.path_test t.path_test;
       query_test = t.query_test;
       fragment_test = t.fragment_test;
       front_test = λ x e. of_that (λ t. (t ≡ the_front (option_copied c.args.base.scheme) (option_copied c.args.base.authority)) × IsAscii t) c.args.base.front.now x (c.requires.base_framed.front, c.requires.base_framed.ascii) e;
@@ -88,8 +88,8 @@ returns-clause-value c =
     let reference = components_of c.args.reference in
     let scheme = none_there c.args.reference.scheme (sym c.is_some.ensures ∙ c.if-is_some.false) in
     let authority = none_there c.args.reference.authority (sym c.is_some-2.ensures ∙ c.if-is_some-2.false) in
-    as_given base.scheme base.authority (guarded_path base.authority (written_path Given c.path_behind.result)) reference.query reference.fragment
-    ∙ ap (λ path. the_components base.scheme base.authority (guarded_path base.authority path) reference.query reference.fragment) c.path_behind.ensures.value
+    as_given base.scheme base.authority (guarded_path base.authority (written_path Given c.path_past.result)) reference.query reference.fragment
+    ∙ ap (λ path. the_components base.scheme base.authority (guarded_path base.authority path) reference.query reference.fragment) c.path_past.ensures.value
     ∙ sym (resolved_path base reference scheme authority (sym c.is_empty.ensures ∙ c.if-is_empty.false))
 
 pub returns-then-is_some-clause-normal : goal.returns-then-is_some-clause-normal
@@ -123,8 +123,8 @@ returns-clause-normal c = λ based.
     let r = components_of c.args.reference in
     let scheme = none_there c.args.reference.scheme (sym c.is_some.ensures ∙ c.if-is_some.false) in
     let authority = none_there c.args.reference.authority (sym c.is_some-2.ensures ∙ c.if-is_some-2.false) in
-    normal_parts_are base.scheme base.authority (path_behind base r.path) (written_path Normal c.path_behind.result) r.query r.fragment based c.path_behind.ensures.normal
-    ∙ ap normal_components (sym (dots_behind base r scheme authority (sym c.is_empty.ensures ∙ c.if-is_empty.false)))
+    normal_parts_are base.scheme base.authority (path_past base r.path) (written_path Normal c.path_past.result) r.query r.fragment based c.path_past.ensures.normal
+    ∙ ap normal_components (sym (dots_past base r scheme authority (sym c.is_empty.ensures ∙ c.if-is_empty.false)))
 
 pub returns-then-is_some-clause-plain : goal.returns-then-is_some-clause-plain
 returns-then-is_some-clause-plain c = λ base reference. record { path = reference.path; query = reference.query; fragment = reference.fragment }
@@ -141,4 +141,4 @@ returns-then-is_empty-clause-plain c = λ base reference.
     }
 
 pub returns-clause-plain : goal.returns-clause-plain
-returns-clause-plain c = λ base reference. record { path = c.path_behind.ensures.plain base.path reference.path; query = reference.query; fragment = reference.fragment }
+returns-clause-plain c = λ base reference. record { path = c.path_past.ensures.plain base.path reference.path; query = reference.query; fragment = reference.fragment }

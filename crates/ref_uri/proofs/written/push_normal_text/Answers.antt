@@ -3,12 +3,12 @@ use Rattle.std.proofs.lemmas.Result.{on_ok_weaker}
 use Rattle.ref_uri.specs.Characters.{has_whole_triples}
 use Rattle.ref_uri.specs.Normal.{normal_text, normal_triple}
 use Rattle.ref_uri.specs.inner.Written.{IsNormalUpTo}
-use Rattle.ref_uri.proofs.NormalFront.{triple_turn, behind_triple, normal_to_end}
+use Rattle.ref_uri.proofs.NormalFront.{triple_turn, after_triple, normal_to_end}
 use Rattle.ref_uri.proofs.written.push_normal_text.Goals as goal
 
 pub normal_len-len-requires-in-triples : goal.normal_len-len-requires-in-triples
 normal_len-len-requires-in-triples c =
-    subst (λ t. has_whole_triples t ≡ true) (sym (c.as_bytes-in-triples.ensures.value ∙ c.tail-rest.ensures.value)) (behind_triple c.triples.rest.now c.triples.len c.triples.invariant.1)
+    subst (λ t. has_whole_triples t ≡ true) (sym (c.as_bytes-in-triples.ensures.value ∙ c.tail-rest.ensures.value)) (after_triple c.triples.rest.now c.triples.len c.triples.invariant.1)
 
 pub triples-preserved : goal.triples-preserved
 triples-preserved c =

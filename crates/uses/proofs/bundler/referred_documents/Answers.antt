@@ -3,7 +3,8 @@ use Rattle.std.proofs.lemmas.List.{take_more}
 use Rattle.std.specs.List.{filter, filter_map}
 use Rattle.std.specs.Option.{option_to_list}
 use Rattle.referencing.specs.ListedPlaces.{listed_of}
-use Rattle.uses.specs.Bundling.{refers_to, refers_from, is_of}
+use Rattle.uses.specs.Bundling.{refers_to, is_of}
+use Rattle.uses.specs.inner.Referring.{refers_from}
 use Rattle.uses.proofs.Bundling.{one_more}
 use Rattle.uses.proofs.bundler.referred_documents.Goals as goal
 use Rattle.uses.proofs.bundler.referred_documents.Goals.{in-Some+in_ok-push, in_default}

@@ -10,7 +10,7 @@ use Rattle.uses.specs.declared.validator.Verdict.TheVariants.{Valid}
 use Rattle.uses.specs.Validating.{referred_from, is_valid, is_of_type, part_for, after_reference, at_child, at_children, validated_within}
 use Rattle.uses.proofs.Validating.{meant, goes_on, stops, ends, too_deep, of_other_type, of_its_type, no_reference, nowhere, there, not_asked, asked, not_entered, one_more, none_left, past_reference}
 use Rattle.uses.proofs.validator.+validated.Goals as goal
-use Rattle.uses.proofs.validator.+validated.Goals.{in-Some+in_ok-behind+else-not-is_valid, in_default}
+use Rattle.uses.proofs.validator.+validated.Goals.{in-Some+in_ok-target_result+else-not-is_valid, in_default}
 
 pub returns-then-depth-eq0 : goal.returns-then-depth-eq0
 returns-then-depth-eq0 t c =
@@ -37,22 +37,22 @@ returns-in_err-found t c =
     let fault : IsFaultOf (validated_within w n r d s i) e = subst (λ a. IsFaultOf a e) (sym (of_its_type w n r d s i (omega (arith, c.if-depth-eq0.false)) its)) ended in
     search rules
 
-pub returns-in_err-behind : goal.returns-in_err-behind
-returns-in_err-behind t c =
+pub returns-in_err-target_result : goal.returns-in_err-target_result
+returns-in_err-target_result t c =
     let w = world_of c.args.resolver.now in
     let n = c.args.depth in
     let r = resolver_of c.args.resolver.now in
     let d = c.args.draft in
     let s = view c.args.schema.now in
     let i = view c.args.instance.now in
-    let e = c.in_err-behind.field-0.0 in
+    let e = c.in_err-target_result.field-0.0 in
     let found = c.in-Some.found in
     let to = c.into_inner-there.result in
     let its : is_of_type s i ≡ true = search rules in
     let led : referred_from w r s ≡ Some (Ok (found_of found)) = sym c.in_ok-found.ensures.ok ∙ ap (option_map (λ f. Ok (found_of f))) c.in-Some.is in
     let world : world_found found ≡ w = rw c.in-Some.is at c.in_ok-found.ensures.world in
     let at = there w (world_of to.1) (n - 1) i (referred_from w r s) (found_of found) (resolver_of to.1) to.2 (view to.0.now) led (c.into_inner-there.ensures.world ∙ world) c.into_inner-there.ensures.resolver c.into_inner-there.ensures.draft c.into_inner-there.ensures.value in
-    let refused : IsFaultOf (after_reference (validated_within w (n - 1)) i (referred_from w r s)) e = subst (λ a. IsFaultOf a e) (sym at) c.in_err-behind.ensures.gives in
+    let refused : IsFaultOf (after_reference (validated_within w (n - 1)) i (referred_from w r s)) e = subst (λ a. IsFaultOf a e) (sym at) c.in_err-target_result.ensures.gives in
     let ended = ends (after_reference (validated_within w (n - 1)) i (referred_from w r s)) (at_children (validated_within w (n - 1)) r i (walked_children d s)) e refused in
     let fault : IsFaultOf (validated_within w n r d s i) e = subst (λ a. IsFaultOf a e) (sym (of_its_type w n r d s i (omega (arith, c.if-depth-eq0.false)) its)) ended in
     search rules
@@ -68,13 +68,13 @@ returns-then-not-is_valid t c =
     let found = c.in-Some.found in
     let to = c.into_inner-there.result in
     let its : is_of_type s i ≡ true = search rules in
-    let other : is_valid c.in_ok-behind.behind ≡ false = search rules in
+    let other : is_valid c.in_ok-target_result.target_result ≡ false = search rules in
     let led : referred_from w r s ≡ Some (Ok (found_of found)) = sym c.in_ok-found.ensures.ok ∙ ap (option_map (λ f. Ok (found_of f))) c.in-Some.is in
     let world : world_found found ≡ w = rw c.in-Some.is at c.in_ok-found.ensures.world in
     let at = there w (world_of to.1) (n - 1) i (referred_from w r s) (found_of found) (resolver_of to.1) to.2 (view to.0.now) led (c.into_inner-there.ensures.world ∙ world) c.into_inner-there.ensures.resolver c.into_inner-there.ensures.draft c.into_inner-there.ensures.value in
     record {
       gives = of_its_type w n r d s i (omega (arith, c.if-depth-eq0.false)) its
-          ∙ stops (after_reference (validated_within w (n - 1)) i (referred_from w r s)) (at_children (validated_within w (n - 1)) r i (walked_children d s)) c.in_ok-behind.behind (at ∙ c.in_ok-behind.ensures.gives) other;
+          ∙ stops (after_reference (validated_within w (n - 1)) i (referred_from w r s)) (at_children (validated_within w (n - 1)) r i (walked_children d s)) c.in_ok-target_result.target_result (at ∙ c.in_ok-target_result.ensures.gives) other;
     }
 
 pub loop-child-init : goal.loop-child-init
@@ -89,14 +89,14 @@ loop-child-init t c =
     let its : is_of_type s i ≡ true = search rules in
     let are : walked_children d s ≡ map walked_child items = search rules in
     elim c.match-branch-2.branch [
-      | in-Some+in_ok-behind+else-not-is_valid b ↦
+      | in-Some+in_ok-target_result+else-not-is_valid b ↦
           let found = b.in-Some.found in
           let to = b.into_inner-there.result in
-          let valid : is_valid b.in_ok-behind.behind ≡ true = search rules in
+          let valid : is_valid b.in_ok-target_result.target_result ≡ true = search rules in
           let led : referred_from w r s ≡ Some (Ok (found_of found)) = sym c.in_ok-found.ensures.ok ∙ ap (option_map (λ f. Ok (found_of f))) b.in-Some.is in
           let world : world_found found ≡ w = rw b.in-Some.is at c.in_ok-found.ensures.world in
           let at = there w (world_of to.1) (n - 1) i (referred_from w r s) (found_of found) (resolver_of to.1) to.2 (view to.0.now) led (b.into_inner-there.ensures.world ∙ world) b.into_inner-there.ensures.resolver b.into_inner-there.ensures.draft b.into_inner-there.ensures.value in
-          past_reference w n r d s i b.in_ok-behind.behind items (omega (arith, c.if-depth-eq0.false)) its (at ∙ b.in_ok-behind.ensures.gives) valid are
+          past_reference w n r d s i b.in_ok-target_result.target_result items (omega (arith, c.if-depth-eq0.false)) its (at ∙ b.in_ok-target_result.ensures.gives) valid are
       | in_default b ↦
           let none : referred_from w r s ≡ None = search rules in
           past_reference w n r d s i Valid items (omega (arith, c.if-depth-eq0.false)) its (no_reference (validated_within w (n - 1)) i (referred_from w r s) none) refl are

@@ -35,8 +35,8 @@ faulty_alone = at Draft202012 "http://a/r" (one "$ref" (text "c d")) ∷ []
 pub returns : goal.returns
 unfolding world_on_literals
 returns c = record {
-  behind_the_first = first;
-  behind_the_second = second;
+  after_the_first = first;
+  after_the_second = second;
   not_twice = twice;
   not_both = λ each. twice each.1.0;
   each = (first_of_two, (second, tt));

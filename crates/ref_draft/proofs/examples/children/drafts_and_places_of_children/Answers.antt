@@ -9,6 +9,6 @@ returns c = record {
   draft_of_its_parent = refl;
   in_order = refl;
   none = refl;
-  standing = (refl, tt);
-  not_standing = λ h. let e : None ≡ Some yes = h.0 in cc;
+  are_at_paths = (refl, tt);
+  are_elsewhere = λ h. let e : None ≡ Some yes = h.0 in cc;
 }

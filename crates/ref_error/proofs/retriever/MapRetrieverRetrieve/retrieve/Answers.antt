@@ -1,6 +1,6 @@
 use Rattle.std.proofs.Common.{rules, ◌≡◌, sym, ◌∙◌, ap, refl, option_map, Some}
 use Rattle.serde_json.specs.View.{view}
-use Rattle.ref_error.specs.Retrieving.{AreLast}
+use Rattle.ref_error.specs.inner.Documents.{AreLast}
 use Rattle.ref_error.proofs.Lasts.{put_in_turn, none_put, some_put}
 use Rattle.ref_error.proofs.retriever.MapRetrieverRetrieve.retrieve.Goals as goal
 

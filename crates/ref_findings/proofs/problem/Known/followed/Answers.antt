@@ -16,4 +16,4 @@ returns-in-Some c =
     let sound : is_among uri k.unsound ≡ false = search rules in
     let why : IsWhy answer (Some c.in-Some.error) = search rules in
     let is = ap (λ b. if b then None else by_answer uri reference answer) sound ∙ ap (by_answer uri reference) why.1 in
-    subst (λ o. IsMaybe o c.leads_nowhere.result) (sym is) (c.leads_nowhere.ensures why.0 why.2)
+    subst (λ o. IsMaybe o c.unresolvable_problem.result) (sym is) (c.unresolvable_problem.ensures why.0 why.2)

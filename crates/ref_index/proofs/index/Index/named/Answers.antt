@@ -3,7 +3,7 @@ use Rattle.std.specs.Prelude.{slice_get}
 use Rattle.ref_definitions.specs.Anchors.{Named, names, last_named}
 use Rattle.ref_index.specs.inner.Index.{IsIndexOf}
 use Rattle.ref_index.proofs.Spots.{last_name_is}
-use Rattle.ref_index.proofs.Looking.{none_is_some, name_found, name_absent, got, tells, stands_at}
+use Rattle.ref_index.proofs.Looking.{none_is_some, name_found, name_absent, got, describes, is_there_at}
 use Rattle.ref_index.proofs.index.Index.named.Goals as goal
 
 pub returns-in_err-named : goal.returns-in_err-named
@@ -30,8 +30,8 @@ returns c =
     let (n, last, kind, at) = name_found layer entries c.args.uri.now c.args.name.now c.self.inside.by_name named is.name (sym c.get.ensures.value ∙ ap option_copied c.in_ok-named.was) in
     let entry = c.in_ok-entry.entry.now in
     let there : Some entry ≡ slice_get entries named.entry = sym (ap option_copied c.in_ok-entry.was) ∙ got c.deref.result.now named.entry c.get-2.result c.get-2.ensures.lookup ∙ ap (λ l. slice_get l named.entry) c.deref.ensures.value in
-    let told = tells layer entries n.0 named.entry n.1.place entry at (sym there) in
+    let described = describes layer entries n.0 named.entry n.1.place entry at (sym there) in
     record {
-      value = (n.1, last_name_is c.args.uri.now c.args.name.now layer ∙ ap (option_map (λ (x : ℕ × Named). x.1)) last, kind, told.0);
-      spot = ap (option_map (λ (x : ℕ × Named). record { document = x.0; path = x.1.place.path })) last ∙ stands_at layer n.0 n.1.place entry told.0 told.1;
+      value = (n.1, last_name_is c.args.uri.now c.args.name.now layer ∙ ap (option_map (λ (x : ℕ × Named). x.1)) last, kind, described.0);
+      spot = ap (option_map (λ (x : ℕ × Named). record { document = x.0; path = x.1.place.path })) last ∙ is_there_at layer n.0 n.1.place entry described.0 described.1;
     }

@@ -30,13 +30,13 @@ returns-in_err-append-clause-err g c =
 
 pub invariant_of-self-2 : goal.invariant_of-self-2
 invariant_of-self-2 g c =
-    (joined c.self.inside.texts.items c.other.inside.texts.items _ _ c.self.inside.slots.items c.other.inside.slots.items _ c.move_behind.new.slots _ _ _ c.len-before.result
-    c.in_ok-extend_from_slice.ensures.items c.as_slice.ensures.value c.in_ok-append.ensures.items (c.move_behind.ensures.len ∙ c.as_mut_slice.ensures.len) c.move_behind.ensures.value c.as_mut_slice.ensures.value (search rules) c.self.invariant c.other.invariant).0
+    (joined c.self.inside.texts.items c.other.inside.texts.items _ _ c.self.inside.slots.items c.other.inside.slots.items _ c.move_after.new.slots _ _ _ c.len-before.result
+    c.in_ok-extend_from_slice.ensures.items c.as_slice.ensures.value c.in_ok-append.ensures.items (c.move_after.ensures.len ∙ c.as_mut_slice.ensures.len) c.move_after.ensures.value c.as_mut_slice.ensures.value (search rules) c.self.invariant c.other.invariant).0
 
 pub returns-clause-value : goal.returns-clause-value
 returns-clause-value g c =
-    (joined c.self.inside.texts.items c.other.inside.texts.items _ _ c.self.inside.slots.items c.other.inside.slots.items _ c.move_behind.new.slots _ _ _ c.len-before.result
-    c.in_ok-extend_from_slice.ensures.items c.as_slice.ensures.value c.in_ok-append.ensures.items (c.move_behind.ensures.len ∙ c.as_mut_slice.ensures.len) c.move_behind.ensures.value c.as_mut_slice.ensures.value (search rules) c.self.invariant c.other.invariant).1
+    (joined c.self.inside.texts.items c.other.inside.texts.items _ _ c.self.inside.slots.items c.other.inside.slots.items _ c.move_after.new.slots _ _ _ c.len-before.result
+    c.in_ok-extend_from_slice.ensures.items c.as_slice.ensures.value c.in_ok-append.ensures.items (c.move_after.ensures.len ∙ c.as_mut_slice.ensures.len) c.move_after.ensures.value c.as_mut_slice.ensures.value (search rules) c.self.invariant c.other.invariant).1
     ∙ ap (λ l. l ++ entries_in c.other.inside.texts.items c.other.inside.slots.items) c.self.view_is ∙ ap (λ l. c.args.self.now ++ l) c.other.view_is
 
 pub invariant_of-self : goal.invariant_of-self
@@ -44,8 +44,8 @@ invariant_of-self g c =
     let same : c.extend_from_slice.new.self.items ≡ c.self.inside.texts.items = search rules in
     subst (λ t. All (IsWithin t) c.self.inside.slots.items) (sym same) c.self.invariant
 
-pub move_behind-requires : goal.move_behind-requires
-move_behind-requires g c = (
+pub move_after-requires : goal.move_after-requires
+move_after-requires g c = (
   c.other.inside.texts.items,
   subst (All (IsWithin c.other.inside.texts.items)) (sym c.as_mut_slice.ensures.value) c.other.invariant,
   search rules,

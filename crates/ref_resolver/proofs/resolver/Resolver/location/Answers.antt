@@ -8,7 +8,7 @@ use Rattle.ref_definitions.specs.Resources.{meant_place}
 use Rattle.ref_definitions.specs.Lookup.{moved_resolver}
 use Rattle.ref_error.proofs.Saying.{uri_meant}
 use Rattle.ref_index.specs.Spots.{Spot, spot_of}
-use Rattle.ref_resolver.specs.Locations.{StandsAt, GivesWhere, uri_spot, lookup_location, location_view, with_parts, parts_along}
+use Rattle.ref_resolver.specs.Locations.{IsValueAt, GivesWhere, uri_spot, lookup_location, location_view, with_parts, parts_along}
 use Rattle.ref_resolver.specs.Resolving.{resolver_of, world_of}
 use Rattle.ref_resolver.specs.inner.Leading.{at_pointer}
 use Rattle.ref_resolver.specs.inner.Names.{is_name}
@@ -53,7 +53,7 @@ returns-clause-gives c =
     let same = whole_leads w r c.args.reference.now uri fragment p place (c.in_ok-uri.ensures.gives, c.in_ok-uri.ensures.fragment, ap (meant_place w) (sym text) ∙ is) at.there.place name none in (
       record { value = view place.value.now; draft = place.entry.now.draft; resolver = moved_resolver r uri },
       same,
-      subst (StandsAt w c.in_ok-location_of-in-None.field-0) (sym at.there.place.value) (c.in_ok-location_of-in-None.ensures.there w p at),
+      subst (IsValueAt w c.in_ok-location_of-in-None.field-0) (sym at.there.place.value) (c.in_ok-location_of-in-None.ensures.there w p at),
     )
 
 pub returns-then-is_name-clause-gives : goal.returns-then-is_name-clause-gives

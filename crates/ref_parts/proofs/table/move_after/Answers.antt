@@ -2,7 +2,7 @@ use Rattle.std.proofs.Common.{◌<◌, length, ap, arith}
 use Rattle.ref_parts.specs.declared.table.Slot.{Slot}
 use Rattle.ref_parts.specs.inner.SortedEntries.{slot_after}
 use Rattle.ref_parts.proofs.Changing.{changed_next, length_kept}
-use Rattle.ref_parts.proofs.table.move_behind.Goals as goal
+use Rattle.ref_parts.proofs.table.move_after.Goals as goal
 
 pub loop-slot-preserved : goal.loop-slot-preserved
 loop-slot-preserved g c =

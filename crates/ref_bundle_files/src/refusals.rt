@@ -256,7 +256,7 @@ fn embedding_advice(obstacle: &Obstacle) -> &'static str {
         Obstacle::IdentifierBesideRef => "put the $ref into an allOf",
         Obstacle::NotAnIdentifier => "give it a URI as its identifier",
         Obstacle::NotKept(_) => "refer to it without the # at the end",
-        Obstacle::UntoldDraft(_) => "give it the $schema of its draft",
+        Obstacle::UnnamedDraft(_) => "give it the $schema of its draft",
         Obstacle::ResolvedAgain => "make its identifier absolute",
     }
 }

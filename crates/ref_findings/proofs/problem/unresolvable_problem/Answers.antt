@@ -2,7 +2,7 @@ use Rattle.std.proofs.Common.{◌≡◌, true, false, sym, subst, refl, rules}
 use Rattle.ref_findings.specs.Findings.{LeadsNowhere}
 use Rattle.ref_findings.specs.inner.Meanings.{IsMaybe, is_unretrievable}
 use Rattle.ref_findings.proofs.Saying.{says_missing, says_nowhere}
-use Rattle.ref_findings.proofs.problem.leads_nowhere.Goals as goal
+use Rattle.ref_findings.proofs.problem.unresolvable_problem.Goals as goal
 
 pub returns-then-is_unretrievable : goal.returns-then-is_unretrievable
 returns-then-is_unretrievable c = λ fault says.

@@ -1,4 +1,4 @@
-//! Where memory was wanted, as a call tells it: while documents are prepared, at which step, or for the copy of an answer.
+//! Where memory ran out, as a call says it: while documents are prepared, at which step, or for the copy of an answer.
 use crate::refused::documents::{DOCUMENT, SUBRESOURCE, retriever, uri, value};
 use crate::refused::stop::{Refusal, Stop, after, before};
 use crate::refused::trial::Trial;
@@ -32,9 +32,9 @@ pub fn row(alloc: Global, call: &str) -> Result<Trial, Stop> {
 }
 
 /// The line of a call.
-fn line(alloc: Global, call: &str, told: &str, is_refused: bool) -> Result<Trial, Stop> {
+fn line(alloc: Global, call: &str, text: &str, is_refused: bool) -> Result<Trial, Stop> {
     Ok(Trial {
-        lines: after(format!(in alloc; "told {call}: {told}"))?,
+        lines: after(format!(in alloc; "ran_out {call}: {text}"))?,
         is_refused,
     })
 }

@@ -6,7 +6,7 @@ use Rattle.ref_resolver.specs.Resolving.{resolver_of as resolver_view}
 use Rattle.ref_serve.specs.Results.{found_members, resolver_members}
 use Rattle.ref_serve.specs.inner.Seen.{asked_view}
 use Rattle.ref_serve.proofs.Giving.{in_two_steps}
-use Rattle.ref_serve.proofs.following.located_object.Goals as goal
+use Rattle.ref_serve.proofs.place.located_object.Goals as goal
 
 pub returns : goal.returns
 returns c =

@@ -81,7 +81,7 @@ fn bundle_above<'s, 'd>(
 
 /// What a bundle is made from, and what is asked for.
 #[derive(Clone, Copy, Drop)]
-pub struct Sources<'s, 'a, 'd, 'w, 'o> {
+pub(crate) struct Sources<'s, 'a, 'd, 'w, 'o> {
     pub rt: &'s HostRuntime,
     given: &'s ArgMatches<'a>,
     pub read: &'d Given,
