@@ -13,3 +13,7 @@ pub mod Retrieving
 pub mod Refused
 pub mod Plain
 pub mod Noted
+pub mod Drafts
+pub mod Surveys
+pub mod Dynamic
+pub mod Nulls

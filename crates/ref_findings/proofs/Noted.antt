@@ -14,7 +14,8 @@ use Rattle.ref_draft.specs.Schema.{text_under, identifier}
 use Rattle.ref_draft.specs.Anchors.{anchors}
 use Rattle.ref_draft.proofs.Lists.{all_append}
 use Rattle.ref_uri.specs.Targets.{Refusal, target}
-use Rattle.ref_definitions.specs.World.{Document, document}
+use Rattle.serde_json.specs.Find.{get, as_str}
+use Rattle.ref_definitions.specs.World.{Document}
 use Rattle.ref_definitions.specs.Places.{Place, base_within, root, levels_below, places}
 use Rattle.ref_definitions.specs.Anchors.{Named, named_under}
 use Rattle.ref_definitions.specs.Cached.{Pair, pairs_of_identifier, pairs_of_reference}
@@ -24,8 +25,9 @@ use Rattle.ref_findings.specs.declared.place.Place as rust
 use Rattle.ref_findings.specs.inner.Plain.{IsPlain}
 use Rattle.ref_index.specs.Visit.{place_with}
 use Rattle.ref_findings.specs.inner.Seen.{place_of}
-use Rattle.ref_findings.specs.Places.{places_near}
+use Rattle.ref_findings.specs.Places.{document, places_near}
 use Rattle.ref_findings.specs.Sources.{Source, places_in, is_sound}
+use Rattle.ref_findings.proofs.Placing.{none_of}
 use Rattle.ref_findings.proofs.Sound.{faultless_document, same_places, sound_places}
 
 -- ---- one place
@@ -42,7 +44,10 @@ wants_nothing (Err refusal) value reference schema = ap (wants_of_text MetaSchem
 pub plain_left_out : (p : rust.Place) → IsPlain p.draft (place_of p).value → IsLeftOut (place_of p)
 plain_left_out p plain =
     let q = place_of p in
-    let (reference, schema, id, anchor) = plain in
+    let reference : text_under (codes "$ref") q.value ≡ None = ap (option_and_then as_str) (none_of (get (codes "$ref") q.value) plain.0) in
+    let schema = plain.1 in
+    let id = plain.2 in
+    let anchor = plain.3 in
     record {
       resource = ap (λ o. option_to_list (option_map (λ uri. (uri, q)) (option_and_then (λ i. result_ok q.base) o))) id;
       name = nothing (result_ok q.base) (λ base. named_under base q) (λ base. ap (map (λ a. record { uri = base; name = a.0; kind = a.1; place = q })) anchor);

@@ -1,15 +1,14 @@
 -- Values without a key that begins with `$`, which is less than each letter: the first key in byte order shows it.
-use Rattle.std.proofs.Common.{◌≡◌, ◌∙◌, ℕ, suc, ◌<◌, ◌≤◌, List, [], ◌∷◌, Option, Some, None, String, Global, Ordering, Less, Equal, Greater, string_bytes, nat_cmp, true≢false, false, sym, ap, refl, arith}
+use Rattle.std.proofs.Common.{◌≡◌, ◌∙◌, ℕ, suc, ◌<◌, ◌≤◌, List, [], ◌∷◌, Option, Some, None, is_some, String, Global, Ordering, Less, Equal, Greater, string_bytes, nat_cmp, true≢false, false, sym, ap, refl, arith}
 use Rattle.std.specs.Prelude.{option_and_then, slice_index, All}
 use Rattle.std.specs.Map.{keys_of}
 use Rattle.std.specs.Cmp.{nat_cmp_is, ranks}
 use Rattle.std.specs.Cmp.Lexicographic.{slice_cmp}
 use Rattle.std.specs.Ordering.{MatchOrdering, is_gt, match_ordering, ordering_then}
 use Rattle.serde_json.specs.Data.{Data, null, boolean, number, string, array, object, Members}
-use Rattle.serde_json.specs.Find.{get, get_member, as_object, as_str}
+use Rattle.serde_json.specs.Find.{get, get_member, as_object}
 use Rattle.serde_json.specs.View.{view, members_view}
 use Rattle.serde_json.specs.declared.value.Value.{Value}
-use Rattle.ref_draft.specs.Schema.{text_under}
 
 at_least : (c d : ℕ) (o more : Ordering) → MatchOrdering o (c < d) (c ≡ d) (d < c) → is_gt (ordering_then o more) ≡ false → c ≤ d
 at_least c d Less more less le = omega (arith, less)
@@ -41,9 +40,9 @@ get_is key (string s) = refl
 get_is key (array ds) = refl
 get_is key (object ms) = refl
 
-pub text_none : (key : List ℕ) (value : Data) (members : Option Members) → members ≡ as_object value → option_and_then (get_member key) members ≡ None → text_under key value ≡ None
-text_none key value members is none = ap (option_and_then as_str) (get_is key value ∙ ap (option_and_then (get_member key)) (sym is) ∙ none)
+pub get_none : (key : List ℕ) (value : Data) (members : Option Members) → members ≡ as_object value → option_and_then (get_member key) members ≡ None → get key value ≡ None
+get_none key value members is none = get_is key value ∙ ap (option_and_then (get_member key)) (sym is) ∙ none
 
-pub text_none_after : (first key : List ℕ) (value : Data) (es : List (String Global × Value)) → 36 < slice_index first 0 → All (λ k. is_gt (slice_cmp nat_cmp first (string_bytes k)) ≡ false) (keys_of es)
-    → Some (members_view es) ≡ as_object value → text_under (36 ∷ key) value ≡ None
-text_none_after first key value es behind all is = text_none (36 ∷ key) value (Some (members_view es)) is (none_under first key es behind all)
+pub get_none_after : (first key : List ℕ) (value : Data) (es : List (String Global × Value)) → 36 < slice_index first 0 → All (λ k. is_gt (slice_cmp nat_cmp first (string_bytes k)) ≡ false) (keys_of es)
+    → Some (members_view es) ≡ as_object value → is_some (get (36 ∷ key) value) ≡ false
+get_none_after first key value es behind all is = ap is_some (get_none (36 ∷ key) value (Some (members_view es)) is (none_under first key es behind all))

@@ -1,18 +1,29 @@
 -- The places of a document are listed level by level.
-use Rattle.std.proofs.Common.{◌≡◌, ℕ, ◌+◌, ◌<◌, ◌≤◌, List, [], ◌∷◌, ◌++◌, take, drop, length, Some, sym, ap, ◌∙◌, subst, append_assoc, arith, length-append}
+use Rattle.std.proofs.Common.{◌≡◌, ℕ, ◌+◌, ◌<◌, ◌≤◌, List, [], ◌∷◌, ◌++◌, map, take, drop, length, Some, sym, ap, ◌∙◌, subst, append_assoc, arith, length-append}
 use Rattle.std.specs.Prelude.{slice_get}
 use Rattle.std.proofs.lemmas.Option.{get_or_from_slice_get}
 use Rattle.std.proofs.lemmas.List.{take_more, drop_more, drop_all, take_all, take-append-le, drop-append-le, take-append-drop}
 use Rattle.ref_definitions.specs.World.{Document}
-use Rattle.ref_definitions.specs.Places.{Place, root}
+use Rattle.ref_definitions.specs.Places.{Place, child_place, root}
 use Rattle.ref_definitions.specs.Queue.{IsQueueBy}
-use Rattle.ref_definitions.proofs.Levels.{AreShallower, under_base_shallower}
+use Rattle.ref_definitions.proofs.Levels.{AreShallower, NestsLess}
+use Rattle.std.specs.List.{AllByRecursion}
+use Rattle.serde_json.specs.Data.{depth}
+use Rattle.ref_paths.specs.Path.{Part}
+use Rattle.ref_draft.specs.declared.draft.Draft.{Draft}
+use Rattle.ref_draft.specs.Children.{Child, children}
+use Rattle.ref_draft.proofs.Depth.{shallower as value_shallower}
 use Rattle.ref_definitions.proofs.Queues.{at_root, step, at_end, beginning}
-use Rattle.ref_findings.specs.Places.{nearest_base, children_near, places_near}
+use Rattle.ref_findings.specs.Places.{nearest_base, with_read_draft, children_near, places_near}
 use Rattle.ref_findings.specs.inner.Queue.{IsAt}
 
+children_shallower : (n : ℕ) (d : Draft) (path : List Part) (base : List ℕ) (cs : List Child) → AllByRecursion (λ child. depth child.1 < n) cs
+    → NestsLess n (map (child_place path base) (map (with_read_draft d) cs))
+children_shallower n d path base [] all = tt
+children_shallower n d path base (c ∷ cs) all = (all.0, children_shallower n d path base cs all.1)
+
 near_shallower : AreShallower children_near
-near_shallower p = under_base_shallower p (nearest_base p)
+near_shallower p = children_shallower (depth p.value) p.draft p.path (nearest_base p) (children p.draft p.value) (value_shallower p.draft p.value)
 
 -- ---- the places as they are listed
 

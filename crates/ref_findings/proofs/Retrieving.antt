@@ -45,15 +45,19 @@ pub grown_so : (a b c : rust.Wants) (m w n v met wanted : List (List ℕ)) → G
 grown_so a b c m w n v met wanted first second is_met is_wanted =
     subst (λ l. Grows a c l wanted) (sym is_met) (subst (λ l. Grows a c (m ++ n) l) (sym is_wanted) (grown_twice a b c m w n v first second))
 
--- a URI that a place has, and two that it wants
-pub grown_by_place : (a b c d : rust.Wants) (own referred dialect o r t : Option (List ℕ)) → Grows a b (option_to_list own) [] → Grows b c [] (option_to_list referred)
-    → Grows c d [] (option_to_list dialect) → own ≡ o → referred ≡ r → dialect ≡ t → Grows a d (option_to_list o) (option_to_list r ++ option_to_list t)
-grown_by_place a b c d own referred dialect o r t first second third is_own is_referred is_dialect =
-    let all = grown_twice a c d (option_to_list own ++ []) (option_to_list referred) [] (option_to_list dialect) (grown_twice a b c (option_to_list own) [] [] (option_to_list referred) first second) third in
+-- a URI that a place has, and three that it wants
+pub grown_by_place : (a b c e d : rust.Wants) (own referred dynamic dialect o r y t : Option (List ℕ)) → Grows a b (option_to_list own) [] → Grows b c [] (option_to_list referred)
+    → Grows c e [] (option_to_list dynamic) → Grows e d [] (option_to_list dialect) → own ≡ o → referred ≡ r → dynamic ≡ y → dialect ≡ t
+    → Grows a d (option_to_list o) (option_to_list r ++ (option_to_list y ++ option_to_list t))
+grown_by_place a b c e d own referred dynamic dialect o r y t first second third fourth is_own is_referred is_dynamic is_dialect =
+    let two = grown_twice a b c (option_to_list own) [] [] (option_to_list referred) first second in
+    let rest = grown_twice c e d [] [] (option_to_list dynamic) (option_to_list dialect) third fourth in
+    let all = grown_twice a c d (option_to_list own ++ []) [] (option_to_list referred) (option_to_list dynamic ++ option_to_list dialect) two rest in
     let met : (option_to_list own ++ []) ++ [] ≡ option_to_list o = append-nil (option_to_list own ++ []) ∙ append-nil (option_to_list own) ∙ ap option_to_list is_own in
-    subst (λ l. Grows a d l (option_to_list r ++ option_to_list t)) met
-    (subst (λ x. Grows a d ((option_to_list own ++ []) ++ []) (option_to_list x ++ option_to_list t)) is_referred
-    (subst (λ x. Grows a d ((option_to_list own ++ []) ++ []) (option_to_list referred ++ option_to_list x)) is_dialect all))
+    subst (λ l. Grows a d l (option_to_list r ++ (option_to_list y ++ option_to_list t))) met
+    (subst (λ x. Grows a d ((option_to_list own ++ []) ++ []) (option_to_list x ++ (option_to_list y ++ option_to_list t))) is_referred
+    (subst (λ x. Grows a d ((option_to_list own ++ []) ++ []) (option_to_list referred ++ (option_to_list x ++ option_to_list t))) is_dynamic
+    (subst (λ x. Grows a d ((option_to_list own ++ []) ++ []) (option_to_list referred ++ (option_to_list dynamic ++ option_to_list x))) is_dialect all)))
 
 -- ---- a key that is put in, or is there
 

@@ -9,7 +9,8 @@ zip_append R [] (y ∷ ys) us vs front back = absurd front
 zip_append R (x ∷ xs) [] us vs front back = absurd front
 zip_append R (x ∷ xs) (y ∷ ys) us vs front back = (front.0, zip_append R xs ys us vs front.1 back)
 
--- five lists after another
-pub five : {X : Type 0} (fs a b c d e : List X) → ((((fs ++ a) ++ b) ++ c) ++ d) ++ e ≡ fs ++ (a ++ (b ++ (c ++ (d ++ e))))
-five fs a b c d e =
-    append_assoc (((fs ++ a) ++ b) ++ c) d e ∙ append_assoc ((fs ++ a) ++ b) c (d ++ e) ∙ append_assoc (fs ++ a) b (c ++ (d ++ e)) ∙ append_assoc fs a (b ++ (c ++ (d ++ e)))
+-- six lists after another
+pub six : {X : Type 0} (fs a b c d e f : List X) → (((((fs ++ a) ++ b) ++ c) ++ d) ++ e) ++ f ≡ fs ++ (a ++ (b ++ (c ++ (d ++ (e ++ f)))))
+six fs a b c d e f =
+    append_assoc ((((fs ++ a) ++ b) ++ c) ++ d) e f ∙ append_assoc (((fs ++ a) ++ b) ++ c) d (e ++ f) ∙ append_assoc ((fs ++ a) ++ b) c (d ++ (e ++ f))
+    ∙ append_assoc (fs ++ a) b (c ++ (d ++ (e ++ f))) ∙ append_assoc fs a (b ++ (c ++ (d ++ (e ++ f))))

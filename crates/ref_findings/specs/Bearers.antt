@@ -1,11 +1,12 @@
 -- Which places have which URIs (2020-12 Core, 8.2.1), and which names of anchors (8.2.2).
-use Rattle.std.specs.Prelude.{ℕ, Bool, true, false, ◌&&◌, not, ◌==◌, List, [], ◌∷◌, ◌++◌, map, flat_map, length, bytes_eq, if◌then◌else◌, Option, Some, None, option_map, option_and_then, slice_get}
+use Rattle.std.specs.Prelude.{ℕ, Bool, true, false, ◌&&◌, ◌||◌, not, ◌==◌, List, [], ◌∷◌, ◌++◌, map, flat_map, length, bytes_eq, if◌then◌else◌, Option, Some, None, option_map, option_and_then, slice_get}
 use Rattle.std.specs.Option.{option_to_list, option_map_or}
 use Rattle.std.specs.List.{find, enumerate_from}
 use Rattle.ref_draft.specs.declared.draft.Draft.{Draft}
 use Rattle.ref_draft.specs.Anchors.{Kind, anchors}
 use Rattle.ref_paths.specs.Path.{Part}
 use Rattle.ref_parts.specs.Table.{Entry, is_under}
+use Rattle.ref_parts.specs.Pointer.{slash}
 use Rattle.ref_definitions.specs.Places.{Place}
 use Rattle.ref_definitions.specs.Resources.{own_uri}
 use Rattle.ref_findings.specs.Places.{nearest_base}
@@ -52,9 +53,16 @@ uri_entries e = map (under_uri e.0) (uris_of e.1.1)
 abbrev pub uris_borne : List Site → List (Entry ℕ)
 uris_borne sites = flat_map uri_entries (enumerate_from 0 sites)
 
--- the entry of an anchor under a base, where it has a name: `"$id": "#"` of Drafts 4 to 7 has none
+-- whether a text begins with a slash
+abbrev pub begins_with_slash : List ℕ → Bool
+begins_with_slash [] = false
+begins_with_slash (c ∷ text) = c == slash
+
+-- the entry of an anchor under a base, where it has a name: `"$id": "#"` of Drafts 4 to 7 has none, and what begins with a
+-- slash is a pointer
 abbrev pub name_at : ℕ → List ℕ → List ℕ × Kind → List (Entry ℕ)
-name_at number base a = if length a.0 == 0 then [] else (base, a.0, number) ∷ []
+name_at number base a =
+    if length a.0 == 0 || begins_with_slash a.0 then [] else (base, a.0, number) ∷ []
 
 -- the entries of the names that a place has, under its base
 abbrev pub names_at : ℕ → Place → List (Entry ℕ)
@@ -79,3 +87,7 @@ other_than sites number first = if first == number then None else slice_get site
 -- the first place that has two texts, where that is another one than this
 abbrev pub other_bearer : List Site → ℕ → Option ℕ → Option Site
 other_bearer sites number first = option_and_then (other_than sites number) first
+
+-- a place, where it is in the source with a number
+abbrev pub in_source : ℕ → Site → Option Site
+in_source number s = if s.0 == number then Some s else None

@@ -1,11 +1,13 @@
 -- What the program's findings say.
-use Rattle.std.specs.Prelude.{◌≡◌, Bool, true, false, map, option_map, ⊤}
+use Rattle.std.specs.Prelude.{◌≡◌, map, option_map, ⊤}
 use Rattle.serde_json.specs.View.{view}
 use Rattle.ref_paths.specs.Segment.{part_of}
 use Rattle.ref_uri.specs.Errors.{SaysRefusal}
 use Rattle.ref_error.specs.Errors.{SaysFault}
 use Rattle.ref_findings.specs.declared.source.Source as rust
 use Rattle.ref_findings.specs.declared.finding.Finding as rust_finding
+use Rattle.ref_findings.specs.declared.finding.Level.{Level}
+use Rattle.ref_findings.specs.declared.finding.Level.TheVariants.{Error, Warning, Note}
 use Rattle.ref_findings.specs.declared.finding.Problem as rust_problem
 use Rattle.ref_findings.specs.declared.finding.Problem.TheVariants as problem
 use Rattle.ref_findings.specs.Sources.{Source}
@@ -16,15 +18,21 @@ use Rattle.ref_findings.specs.Findings.{Finding, Problem}
 abbrev pub source_of : rust.Source → Source
 source_of s = record { uri = s.uri; tree = option_map (λ v. view v.now) s.value }
 
--- whether what is found is a note, and no error
-abbrev pub is_note : rust_problem.Problem → Bool
-is_note (problem.Unchecked uri) = true
-is_note (problem.UnknownDialect uri) = true
-is_note other = false
+-- the level of what is found
+abbrev pub level_of : rust_problem.Problem → Level
+level_of problem.NotChecked = Warning
+level_of problem.NamesNothing = Note
+level_of (problem.Unchecked uri) = Note
+level_of (problem.UnknownDialect uri) = Note
+level_of other = Error
 
 -- what the program says is wrong is what is wrong
 abbrev pub IsProblemOf : rust_problem.Problem → Problem → Type 0
 IsProblemOf problem.NotJson findings.NotJson = ⊤
+IsProblemOf problem.NotChecked findings.NotChecked = ⊤
+IsProblemOf problem.NotAText findings.NotAText = ⊤
+IsProblemOf problem.RecursiveElsewhere findings.RecursiveElsewhere = ⊤
+IsProblemOf problem.NamesNothing findings.NamesNothing = ⊤
 IsProblemOf (problem.InvalidUri error) (findings.InvalidUri refusal) = SaysRefusal error refusal
 IsProblemOf (problem.MissingDocument uri) (findings.MissingDocument text) = uri.value ≡ text
 IsProblemOf (problem.LeadsNowhere uri error) (findings.LeadsNowhere text fault) =

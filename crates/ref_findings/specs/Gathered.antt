@@ -8,12 +8,20 @@ use Rattle.ref_draft.specs.declared.draft.Draft.{Draft}
 use Rattle.ref_definitions.specs.Places.{Place}
 use Rattle.ref_definitions.specs.Wants.{reference_at, schema_at}
 use Rattle.ref_definitions.specs.Preparing.{Retriever}
-use Rattle.ref_findings.specs.Places.{nearest_base}
+use Rattle.ref_uri.specs.Targets.{target}
+use Rattle.ref_draft.specs.Schema.{text_under}
+use Rattle.ref_findings.specs.Places.{nearest_base, dynamic_keyword}
 use Rattle.ref_findings.specs.Sources.{Source, places_in, uris_in}
 
 -- the URI that the `$ref` of a place points into, where it means one
 abbrev pub referred_uri : Place → Option (List ℕ)
 referred_uri p = option_and_then result_ok (reference_at (nearest_base p) p.value)
+
+-- the URI that its dynamic reference points into, where it means one
+abbrev pub dynamic_uri : Place → Option (List ℕ)
+dynamic_uri p =
+    option_and_then (λ text. result_ok (target (nearest_base p) text))
+    (option_and_then (λ keyword. text_under keyword p.value) (dynamic_keyword p.draft))
 
 -- the URI that its `$schema` names, where that is no known draft and means one
 abbrev pub dialect_uri : Place → Option (List ℕ)
@@ -21,7 +29,9 @@ dialect_uri p = option_and_then result_ok (schema_at p.value)
 
 -- the URIs that a place wants
 abbrev pub wanted_at : Place → List (List ℕ)
-wanted_at p = option_to_list (referred_uri p) ++ option_to_list (dialect_uri p)
+wanted_at p =
+    option_to_list (referred_uri p)
+    ++ (option_to_list (dynamic_uri p) ++ option_to_list (dialect_uri p))
 
 -- those that a source wants, place by place
 abbrev pub wanted_by : Draft → Source → List (List ℕ)

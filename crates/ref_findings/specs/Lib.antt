@@ -1,5 +1,6 @@
 pub mod Sources
 pub mod Places
+pub mod Mending
 pub mod Bearers
 pub mod Findings
 pub mod Entries

@@ -5,10 +5,11 @@ use Rattle.std.specs.List.{list_any}
 use Rattle.serde_json.specs.Data.{Data}
 use Rattle.ref_draft.specs.declared.draft.Draft.{Draft}
 use Rattle.ref_parts.specs.Table.{Entry}
-use Rattle.ref_definitions.specs.World.{Document, World, document}
+use Rattle.ref_definitions.specs.World.{Document, World}
 use Rattle.ref_definitions.specs.Places.{Place}
 use Rattle.ref_definitions.specs.Resources.{own_uri}
-use Rattle.ref_findings.specs.Places.{places_near, is_faulty}
+use Rattle.ref_findings.specs.Places.{document, places_near, is_faulty}
+use Rattle.ref_findings.specs.Mending.{mended_tree}
 
 -- a source: its URI, and its tree, where it is JSON
 pub record Source : Type 0 where
@@ -31,9 +32,21 @@ is_sound draft s = is_some s.tree && not (list_any is_faulty (places_in draft s)
 abbrev pub sound_document : Draft → Source → List Document
 sound_document draft s = if is_sound draft s then option_to_list (document_in draft s) else []
 
--- what references are looked up in: the sound ones of the sources and of those that are held beside them
+-- a source with `null` in place of each text that means no URI
+abbrev pub mended : Draft → Source → Source
+mended draft s = record s { tree = option_map (mended_tree (places_in draft s)) s.tree }
+
+-- a source as it is read: itself, where it is sound
+abbrev pub read_source : Draft → Source → Source
+read_source draft s = if is_sound draft s then s else mended draft s
+
+-- its document
+abbrev pub read_document : Draft → Source → List Document
+read_document draft s = sound_document draft (read_source draft s)
+
+-- what references are looked up in: the sources, and those that are held beside them, as they are read
 abbrev pub world_of : Draft → List Source → List Source → World
-world_of draft sources held = flat_map (sound_document draft) (sources ++ held) ∷ []
+world_of draft sources held = flat_map (read_document draft) (sources ++ held) ∷ []
 
 -- an entry of a URI alone
 abbrev pub under_uri : ℕ → List ℕ → Entry ℕ
@@ -43,10 +56,10 @@ under_uri number uri = (uri, [], number)
 abbrev pub uris_in : Draft → Source → List (List ℕ)
 uris_in draft s = s.uri ∷ flat_map (λ p. option_to_list (own_uri p)) (places_in draft s)
 
--- those of a source that isn't sound
-abbrev pub unsound_uris : Draft → Source → List (Entry ℕ)
-unsound_uris draft s = if is_sound draft s then [] else map (under_uri 0) (uris_in draft s)
+-- the URI of a source that isn't JSON
+abbrev pub unread_uri : Source → List (Entry ℕ)
+unread_uri s = if is_some s.tree then [] else under_uri 0 s.uri ∷ []
 
 -- those of all sources that aren't
-abbrev pub unsound_sources : Draft → List Source → List Source → List (Entry ℕ)
-unsound_sources draft sources held = flat_map (unsound_uris draft) (sources ++ held)
+abbrev pub unread_uris : List Source → List Source → List (Entry ℕ)
+unread_uris sources held = flat_map unread_uri (sources ++ held)

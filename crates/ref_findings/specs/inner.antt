@@ -6,3 +6,4 @@ pub mod Queue
 pub mod Wanted
 pub mod Plain
 pub mod Adding
+pub mod Read

@@ -3,15 +3,17 @@ ghost use Rattle.std.specs.Prelude.{◌≡◌, [], ◌∷◌, ◌++◌, map, fla
 ghost use Rattle.std.specs.Option.{option_to_list};
 ghost use Rattle.ref_parts.specs.Table.{entries_of};
 ghost use Rattle.ref_definitions.specs.Resources.{own_uri};
-ghost use Rattle.ref_findings.specs.Sources.{under_uri};
+ghost use Rattle.ref_findings.specs.Sources.{under_uri, unread_uri, unread_uris};
+ghost use Rattle.ref_findings.specs.Findings.{is_any_twice};
+ghost use Rattle.ref_findings.specs.Entries.{source_of};
 ghost use Rattle.ref_draft.specs.Views.{anchor_name};
 ghost use Rattle.ref_findings.specs.Bearers.{source_uri, uris_of, name_at, names_at, uris_borne, names_borne};
-ghost use Rattle.ref_findings.specs.inner.Seen.{place_of, site_of, seen_survey, unsound_in};
+ghost use Rattle.ref_findings.specs.inner.Seen.{place_of, site_of};
 
 use crate::base::{base_of, nearest_base};
 use crate::place::Place;
 use crate::site::Site;
-use crate::survey::Survey;
+use crate::source::Source;
 use ref_draft::{Anchor, AnchorIter};
 use ref_parts::SortedTable;
 use ref_uri::Uri;
@@ -113,7 +115,7 @@ fn push_name(
         ++ name_at number base.now.value (anchor_name anchor.entry)) }
 {
     let name = anchor.name();
-    if name.is_empty() {
+    if name.is_empty() || name.starts_with('/') {
         return Ok(());
     }
     push(alloc, entries, base.as_str(), name, number)
@@ -154,18 +156,68 @@ fn table_of(alloc: Global, entries: Entries) -> Result<SortedTable<usize>, Alloc
     Ok(table)
 }
 
-/// The table of the URIs that places have, made from the last to the first: each has the number of the first that has it.
-pub(crate) fn uris_of(
-    alloc: Global,
-    sites: &[Site<'_, '_>],
-) -> Result<SortedTable<usize>, AllocError>
-    ensures value { IfOk result (λ table. table ≡ reverse (uris_borne (map site_of sites.now))) }
+// The URIs that places have, in order.
+fn uri_entries(alloc: Global, sites: &[Site<'_, '_>]) -> Result<Entries, AllocError>
+    ensures { IfOk result
+        (λ entries. entries_of entries.items ≡ uris_borne (map site_of sites.now)) }
 {
     let mut entries = Vec::new(alloc);
     for (number, site) in sites.iter().enumerate() {
         push_uris(alloc, &mut entries, site.place, number)?;
     }
-    table_of(alloc, entries)
+    Ok(entries)
+}
+
+// A copy of entries.
+fn copy_of(alloc: Global, entries: &Entries) -> Result<Entries, AllocError>
+    ensures { IfOk result (λ copy. entries_of copy.items ≡ entries_of entries.now.items) }
+{
+    let mut copy = Vec::with_capacity(alloc, entries.len())?;
+    for (first, second, number) in entries {
+        push(alloc, &mut copy, first.as_str(), second.as_str(), *number)?;
+    }
+    Ok(copy)
+}
+
+/// Which places have which URIs.
+#[derive(Drop)]
+pub(crate) struct Uris {
+    /// Each URI with the number of the first place that has it: made from the last entry to the first.
+    pub firsts: SortedTable<usize>,
+    /// Each URI with the number of the last one.
+    pub lasts: SortedTable<usize>,
+    /// Whether some URI is had twice.
+    pub is_any_twice: bool,
+}
+
+/// The places of sources, and which URIs and names they have.
+#[derive(Drop)]
+pub(crate) struct Bearers<'p, 'v> {
+    pub sites: Vec<Site<'p, 'v>>,
+    pub uris: Uris,
+    pub names: SortedTable<usize>,
+    /// The URIs of sources that are no JSON.
+    pub unread: SortedTable<usize>,
+}
+
+/// Which places have which URIs.
+pub(crate) fn uris_of(alloc: Global, sites: &[Site<'_, '_>]) -> Result<Uris, AllocError>
+    ensures firsts { IfOk result
+        (λ uris. uris.firsts ≡ reverse (uris_borne (map site_of sites.now))) }
+    ensures lasts { IfOk result (λ uris. uris.lasts ≡ uris_borne (map site_of sites.now)) }
+    ensures twice { IfOk result
+        (λ uris. uris.is_any_twice ≡ is_any_twice (uris_borne (map site_of sites.now))) }
+{
+    let entries = uri_entries(alloc, sites)?;
+    let count = entries.len();
+    let lasts = SortedTable::from_entries(alloc, copy_of(alloc, &entries)?)?;
+    let firsts = table_of(alloc, entries)?;
+    let is_any_twice = lasts.len() != count;
+    Ok(Uris {
+        firsts,
+        lasts,
+        is_any_twice,
+    })
 }
 
 /// The table of the names that places have under their bases, made from the last to the first.
@@ -182,65 +234,45 @@ pub(crate) fn names_of(
     table_of(alloc, entries)
 }
 
-// Adds the URIs that places have by their identifiers.
-fn push_own(alloc: Global, entries: &mut Entries, places: &[Place<'_>]) -> Result<(), AllocError>
-    ensures { OnOk result (entries_of entries.new.items ≡ entries_of entries.old.items
-        ++ map (under_uri 0)
-        (flat_map (λ p. option_to_list (own_uri p)) (map place_of places.now))) }
-{
-    for place in places {
-        let own = own_uri(alloc, place)?;
-        push_uri(alloc, entries, own.as_ref(), 0)?;
-    }
-    Ok(())
-}
-
-// Adds the URI of a source that isn't sound, and those that its places have.
-fn push_unsound(
-    alloc: Global,
-    entries: &mut Entries,
-    survey: &Survey<'_, '_>,
-) -> Result<(), AllocError>
+// Adds the URI of a source that is no JSON.
+fn push_unread(alloc: Global, entries: &mut Entries, source: &Source<'_>) -> Result<(), AllocError>
     ensures { OnOk result
         (entries_of entries.new.items
-        ≡ entries_of entries.old.items ++ unsound_in (seen_survey survey.now)) }
+        ≡ entries_of entries.old.items ++ unread_uri (source_of source.now)) }
 {
-    if survey.is_sound {
+    if source.value.is_some() {
         return Ok(());
     }
-    push(alloc, entries, survey.source.uri.as_str(), "", 0)?;
-    push_own(alloc, entries, survey.places.as_slice())
+    push(alloc, entries, source.uri.as_str(), "", 0)
 }
 
-// Adds those of sources that aren't sound.
-fn push_all_unsound(
+// Adds those of sources that are none.
+fn push_all_unread(
     alloc: Global,
     entries: &mut Entries,
-    surveys: &[Survey<'_, '_>],
+    sources: &[Source<'_>],
 ) -> Result<(), AllocError>
     ensures { OnOk result
         (entries_of entries.new.items
-        ≡ entries_of entries.old.items ++ flat_map unsound_in (map seen_survey surveys.now)) }
+        ≡ entries_of entries.old.items ++ flat_map unread_uri (map source_of sources.now)) }
 {
-    for survey in surveys {
-        push_unsound(alloc, entries, survey)?;
+    for source in sources {
+        push_unread(alloc, entries, source)?;
     }
     Ok(())
 }
 
-/// The table of the URIs of sources that aren't sound, and of those that their places have.
-pub(crate) fn unsound_of(
+/// The table of the URIs of sources that are no JSON.
+pub(crate) fn unread_of(
     alloc: Global,
-    surveys: &[Survey<'_, '_>],
-    others: &[Survey<'_, '_>],
+    sources: &[Source<'_>],
+    held: &[Source<'_>],
 ) -> Result<SortedTable<usize>, AllocError>
     ensures value { IfOk result
-        (λ table. table
-        ≡ flat_map unsound_in (map seen_survey surveys.now)
-        ++ flat_map unsound_in (map seen_survey others.now)) }
+        (λ table. table ≡ unread_uris (map source_of sources.now) (map source_of held.now)) }
 {
     let mut entries = Vec::new(alloc);
-    push_all_unsound(alloc, &mut entries, surveys)?;
-    push_all_unsound(alloc, &mut entries, others)?;
+    push_all_unread(alloc, &mut entries, sources)?;
+    push_all_unread(alloc, &mut entries, held)?;
     SortedTable::from_entries(alloc, entries)
 }

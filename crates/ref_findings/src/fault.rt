@@ -5,7 +5,7 @@ ghost use Rattle.serde_json.specs.View.{view};
 ghost use Rattle.ref_uri.specs.Targets.{target};
 ghost use Rattle.ref_definitions.specs.Places.{base_within};
 ghost use Rattle.ref_definitions.specs.Wants.{reference_at, schema_at};
-ghost use Rattle.ref_findings.specs.Places.{is_refused, is_faulty};
+ghost use Rattle.ref_findings.specs.Places.{nearest_base, is_refused, is_faulty};
 ghost use Rattle.ref_findings.specs.inner.Seen.{place_of};
 
 use crate::base::{base_of, meta_schema_uri, nearest_base};
@@ -19,7 +19,7 @@ use std::alloc::{AllocError, Global};
 use std::rc::Rc;
 
 // Whether its identifier means no URI.
-fn is_identifier_faulty(
+fn is_identifier_refused(
     alloc: Global,
     outer: &Rc<Uri>,
     id: Option<&str>,
@@ -46,7 +46,7 @@ fn is_target_refused(base: &Uri, reference: &str) -> bool
 }
 
 // Whether its reference means no URI.
-fn is_reference_faulty(base: &Uri, value: &Value) -> bool
+fn is_reference_refused(base: &Uri, value: &Value) -> bool
     ensures { result ≡ is_refused (reference_at base.now (view value.now)) }
 {
     match text_under(value, "$ref") {
@@ -55,9 +55,9 @@ fn is_reference_faulty(base: &Uri, value: &Value) -> bool
     }
 }
 
-// Whether its `$schema`, where that is no known draft, means no URI.
-fn is_schema_faulty(alloc: Global, value: &Value) -> Result<bool, AllocError>
-    ensures { IfOk result (λ faulty. faulty ≡ is_refused (schema_at (view value.now))) }
+/// Whether the `$schema` of a value, where that is no known draft, means no URI.
+pub(crate) fn is_schema_refused(alloc: Global, value: &Value) -> Result<bool, AllocError>
+    ensures value { IfOk result (λ refused. refused ≡ is_refused (schema_at (view value.now))) }
 {
     let Some(text) = text_under(value, "$schema") else {
         return Ok(false);
@@ -69,6 +69,35 @@ fn is_schema_faulty(alloc: Global, value: &Value) -> Result<bool, AllocError>
     Ok(uri.is_err())
 }
 
+/// Which texts of a place mean no URI.
+#[derive(Clone, Copy)]
+pub(crate) struct Refused {
+    pub id: bool,
+    pub reference: bool,
+    pub schema: bool,
+}
+
+/// Which texts of a place mean no URI: its identifier, its `$ref` and its `$schema`.
+pub(crate) fn refused_in(alloc: Global, place: &Place<'_>) -> Result<Refused, AllocError>
+    ensures id { IfOk result (λ r. r.id ≡ is_refused (Some (place_of place.now).base)) }
+    ensures reference { IfOk result
+        (λ r. r.reference
+        ≡ is_refused (reference_at (nearest_base (place_of place.now)) (place_of place.now).value)) }
+    ensures schema { IfOk result
+        (λ r. r.schema ≡ is_refused (schema_at (place_of place.now).value)) }
+{
+    let identifier = place.id();
+    let id = is_identifier_refused(alloc, &place.outer, identifier)?;
+    let base = nearest_base(alloc, &place.outer, identifier)?;
+    let reference = is_reference_refused(&base, place.value);
+    let schema = is_schema_refused(alloc, place.value)?;
+    Ok(Refused {
+        id,
+        reference,
+        schema,
+    })
+}
+
 // Whether a place has a text that means no URI.
 fn is_faulty(alloc: Global, place: &Place<'_>) -> Result<bool, AllocError>
     ensures { IfOk result (λ faulty. faulty ≡ is_faulty (place_of place.now)) }
@@ -76,12 +105,8 @@ fn is_faulty(alloc: Global, place: &Place<'_>) -> Result<bool, AllocError>
     if place.is_plain() {
         return Ok(false);
     }
-    let id = place.id();
-    let of_identifier = is_identifier_faulty(alloc, &place.outer, id)?;
-    let base = nearest_base(alloc, &place.outer, id)?;
-    let of_reference = is_reference_faulty(&base, place.value);
-    let of_schema = is_schema_faulty(alloc, place.value)?;
-    Ok(of_identifier || (of_reference || of_schema))
+    let refused = refused_in(alloc, place)?;
+    Ok(refused.id || (refused.reference || refused.schema))
 }
 
 /// Whether one of these places has an identifier, a `$ref` or a `$schema` that means no URI.

@@ -2,7 +2,7 @@
 ghost use Rattle.std.specs.Prelude.{◌≡◌, option_map};
 ghost use Rattle.serde_json.specs.View.{view};
 ghost use Rattle.ref_draft.specs.Schema.{text_under};
-ghost use Rattle.ref_findings.specs.Entries.{is_note};
+ghost use Rattle.ref_findings.specs.Entries.{level_of};
 
 use ref_error::Error;
 use ref_parts::path::JsonPointerSegment;
@@ -15,7 +15,8 @@ use std::rc::Rc;
 pub struct Report<'v> {
     /// What is wrong, and what is noted.
     pub findings: Vec<Finding<'v>>,
-    /// How many references the sources have: texts under `$ref` where schemas are.
+    /// How many references the sources have: texts under `$ref`, and under `$dynamicRef` or `$recursiveRef` where their draft has
+    /// it, where schemas are.
     pub references: usize,
 }
 
@@ -34,26 +35,46 @@ pub struct Finding<'v> {
     pub problem: Problem<'v>,
 }
 
+/// How much a finding counts.
+#[derive(Clone, Copy, Debug, Drop, PartialEq, Eq)]
+pub enum Level {
+    /// A reference, an identifier or a file is wrong.
+    Error,
+    /// Something was not looked at.
+    Warning,
+    /// Something that is allowed, and may be meant otherwise.
+    Note,
+}
+
 /// What is wrong, or is noted.
 #[derive(Drop)]
 pub enum Problem<'v> {
     /// The source is no JSON.
     NotJson,
+    /// A warning: the source is an OpenAPI, Swagger or AsyncAPI description, by the member at its root that the finding is on. Its
+    /// references are looked at only where a JSON Schema document would have schemas.
+    NotChecked,
+    /// The value of a `$ref`, or of a `$dynamicRef` or `$recursiveRef` where the draft has it, is no text.
+    NotAText,
+    /// A `$recursiveRef` that is not `#` (2019-09 Core, 8.2.4.2.1).
+    RecursiveElsewhere,
+    /// A note: what follows the `#` of an anchor begins with a slash, so that it is read as a pointer and names nothing.
+    NamesNothing,
     /// An identifier, a `$ref` or a `$schema` means no URI.
     InvalidUri(UriError),
-    /// The URI of a `$ref` is that of no document and no schema.
+    /// The URI of a reference is that of no document and no schema.
     MissingDocument {
         /// The URI.
         uri: Rc<Uri>,
     },
-    /// A `$ref` is unresolvable in a document that is there.
+    /// A reference is unresolvable in a document that is there.
     LeadsNowhere {
         /// The URI of what it points into.
         uri: Rc<Uri>,
         /// The fault of the look-up: neither `Unretrievable` nor `Memory`.
         error: Error,
     },
-    /// A note: a `$ref` points into a meta-schema of a draft that isn't among the documents, so that its fragment isn't
+    /// A note: a reference points into a meta-schema of a draft that isn't among the documents, so that its fragment isn't
     /// looked up.
     Unchecked {
         /// The URI of the meta-schema.
@@ -90,14 +111,16 @@ pub struct Bearer<'v> {
 }
 
 impl Problem<'_> {
-    /// Whether it is a note, and no error. Takes no memory.
-    pub fn is_note(&self) -> bool
-        ensures value { result ≡ is_note self.now }
+    /// How much it counts. Takes no memory.
+    pub fn level(&self) -> Level
+        ensures value { result ≡ level_of self.now }
     {
-        matches!(
-            self,
-            Problem::Unchecked { .. } | Problem::UnknownDialect { .. }
-        )
+        match self {
+            Problem::NotChecked => Level::Warning,
+            Problem::NamesNothing => Level::Note,
+            Problem::Unchecked { .. } | Problem::UnknownDialect { .. } => Level::Note,
+            _ => Level::Error,
+        }
     }
 }
 

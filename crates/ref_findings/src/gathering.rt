@@ -5,7 +5,7 @@ ghost use Rattle.std.specs.List.{AllByRecursion};
 ghost use Rattle.serde_json.specs.View.{view};
 ghost use Rattle.ref_definitions.specs.Resources.{own_uri};
 ghost use Rattle.ref_findings.specs.Sources.{uris_in};
-ghost use Rattle.ref_findings.specs.Gathered.{referred_uri, dialect_uri, wanted_at, wanted_by, MayReturn, IsGathered};
+ghost use Rattle.ref_findings.specs.Gathered.{referred_uri, dynamic_uri, dialect_uri, wanted_at, wanted_by, MayReturn, IsGathered};
 ghost use Rattle.ref_findings.specs.Entries.{source_of};
 ghost use Rattle.ref_findings.specs.Held.{held_source};
 ghost use Rattle.ref_findings.specs.inner.Seen.{place_of, seen_survey};
@@ -87,6 +87,8 @@ impl Wants {
         self.meet_own(own)?;
         let referred = referred(alloc, place)?;
         self.want(referred)?;
+        let dynamic = dynamic(alloc, place)?;
+        self.want(dynamic)?;
         let dialect = dialect(alloc, place)?;
         self.want(dialect)
     }
@@ -134,6 +136,19 @@ fn referred(alloc: Global, place: &Place<'_>) -> Result<Option<Rc<Uri>>, AllocEr
     Ok(target.ok())
 }
 
+// The URI that the dynamic reference of a place points into, where it has one that means a URI.
+fn dynamic(alloc: Global, place: &Place<'_>) -> Result<Option<Rc<Uri>>, AllocError>
+    ensures { IfOk result
+        (λ uri. option_map (λ u. u.value) uri ≡ dynamic_uri (place_of place.now)) }
+{
+    let Some(reference) = place.dynamic() else {
+        return Ok(None);
+    };
+    let base = nearest_base(alloc, &place.outer, place.id())?;
+    let target = target_of(alloc, &base, reference)?;
+    Ok(target.ok())
+}
+
 // The URI that the `$schema` of a place names, where it names no known draft and means a URI.
 fn dialect(alloc: Global, place: &Place<'_>) -> Result<Option<Rc<Uri>>, AllocError>
     ensures { IfOk result
@@ -174,7 +189,7 @@ fn add_held(alloc: Global, draft: Draft, wants: &mut Wants, held: &Held) -> Resu
         (Grows wants.old wants.new (uris_in draft (held_source held.now))
         (wanted_by draft (held_source held.now))) }
 {
-    let places = places_of(alloc, &held.uri, &held.value, draft.detect(&held.value))?;
+    let places = places_of(alloc, &held.uri, &held.value, draft)?;
     wants.add_document(alloc, &held.uri, places.as_slice())
 }
 
@@ -284,7 +299,7 @@ fn wants_of(alloc: Global, draft: Draft, sources: &[Source<'_>]) -> Result<Wants
 }
 
 /// The documents that sources want, and that those want in turn, as far as a retriever returns them: for each URI that
-/// a `$ref` points into or an unknown `$schema` names and that no document or place has, the retriever is asked once,
+/// a reference points into or an unknown `$schema` names and that no document or place has, the retriever is asked,
 /// and what it returns is read before the next. At most `limit` documents are retrieved. A document that the retriever
 /// refuses is left out.
 ///

@@ -4,6 +4,7 @@ ghost use Rattle.serde_json.specs.View.{view};
 ghost use Rattle.ref_draft.specs.Keywords.{id_keyword};
 ghost use Rattle.ref_draft.specs.Schema.{text_under};
 ghost use Rattle.ref_draft.specs.Views.{anchor_name};
+ghost use Rattle.ref_findings.specs.Places.{dynamic_keyword};
 ghost use Rattle.ref_findings.specs.Findings.{anchor_keyword};
 ghost use Rattle.ref_findings.specs.inner.Keywords.{keyword_text};
 
@@ -18,6 +19,8 @@ pub(crate) enum Keyword {
     OldId,
     Id,
     Ref,
+    DynamicRef,
+    RecursiveRef,
     Schema,
     Anchor,
     DynamicAnchor,
@@ -32,6 +35,8 @@ impl Keyword {
             Keyword::OldId => "id",
             Keyword::Id => "$id",
             Keyword::Ref => "$ref",
+            Keyword::DynamicRef => "$dynamicRef",
+            Keyword::RecursiveRef => "$recursiveRef",
             Keyword::Schema => "$schema",
             Keyword::Anchor => "$anchor",
             Keyword::DynamicAnchor => "$dynamicAnchor",
@@ -45,6 +50,17 @@ impl Keyword {
         match draft {
             Draft::Draft4 => Keyword::OldId,
             _ => Keyword::Id,
+        }
+    }
+
+    /// The keyword of dynamic references in a draft, where it has one.
+    pub fn of_dynamic(draft: Draft) -> Option<Keyword>
+        ensures value { option_map keyword_text result ≡ dynamic_keyword draft }
+    {
+        match draft {
+            Draft::Draft4 | Draft::Draft6 | Draft::Draft7 => None,
+            Draft::Draft201909 => Some(Keyword::RecursiveRef),
+            Draft::Draft202012 | Draft::Unknown => Some(Keyword::DynamicRef),
         }
     }
 

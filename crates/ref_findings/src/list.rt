@@ -1,30 +1,38 @@
 //! The list of all that is found.
-ghost use Rattle.std.specs.Prelude.{◌≡◌, [], ◌∷◌, ◌++◌, Some, map, filter, length, option_map, Option, IfOk};
-ghost use Rattle.std.specs.List.{AllZip, AllByRecursion};
+ghost use Rattle.std.specs.Prelude.{◌≡◌, [], ◌∷◌, ◌++◌, Some, map, flat_map, length, if◌then◌else◌, option_map, Option, IfOk};
+ghost use Rattle.std.specs.List.{AllZip, AllByRecursion, enumerate_from};
 ghost use Rattle.ref_draft.specs.declared.anchor.Anchor.{Anchor};
 ghost use Rattle.ref_draft.specs.Views.{anchor_name};
 ghost use Rattle.ref_findings.specs.Places.{nearest_base};
 ghost use Rattle.ref_findings.specs.Findings as spec;
-ghost use Rattle.ref_findings.specs.Findings.{finding_at, anchor_finding, source_findings, identifier_findings, reference_findings, schema_findings, anchor_findings, findings_at, place_findings, no_json, not_json, unread_sources, has_reference, references, findings};
+ghost use Rattle.ref_findings.specs.Findings.{finding_at, anchor_finding, source_findings, identifier_findings, reference_findings, dynamic_findings, schema_findings, anchor_findings, findings_at, place_findings, no_json, description_keyword, not_checked, description_findings, whole_findings, sources_findings, references_at, references, findings};
+ghost use Rattle.ref_findings.specs.Sources.{unread_uris};
+ghost use Rattle.ref_findings.specs.Bearers.{numbered_sites, uris_borne, names_borne};
+ghost use Rattle.ref_resolver.specs.Layered.{world_in};
+ghost use Rattle.ref_findings.specs.inner.Read.{AreBearers, known_read};
 ghost use Rattle.ref_findings.specs.Entries.{source_of, IsProblemOf, IsFindingOf};
 ghost use Rattle.ref_findings.specs.inner.Adding.{Adds};
 ghost use Rattle.ref_findings.specs.inner.Keywords.{keyword_text};
 ghost use Rattle.ref_findings.specs.inner.Meanings.{IsMaybe};
-ghost use Rattle.ref_findings.specs.inner.Seen.{site_of, seen_survey, survey_in, PlacesAreThere, known_in, known_among};
+ghost use Rattle.ref_findings.specs.inner.Seen.{site_of, seen_survey, sound_in, read_of, AreSurveys, PlacesAreThere, known_in, known_among};
+ghost use Rattle.serde_json.specs.View.{view};
 
 use crate::base::nearest_base;
-use crate::bearers::{names_of, own_uri, source_uri, unsound_of, uris_of};
-use crate::finding::{Finding, Problem, Report};
+use crate::bearers::{Bearers, names_of, own_uri, source_uri, unread_of, uris_of};
+use crate::finding::{Finding, Problem, Report, text_under};
 use crate::keyword::{Keyword, keyword_at};
-use crate::problem::Known;
+use crate::known::Known;
 use crate::site::Site;
 use crate::source::Source;
-use crate::survey::{Survey, index_of, sites_of, surveys_of};
+use crate::survey::{
+    Survey, index_of, is_any_mended, own_indexes, read_sources, sites_of, surveys_of,
+};
 use ref_draft::{Anchor, AnchorIter, Draft};
 use ref_index::{Index, segments_of};
 use ref_parts::SortedTable;
 use ref_resolver::Layers;
 use ref_uri::Uri;
+use serde_json::Value;
 use std::alloc::{AllocError, Global};
 use std::rc::Rc;
 
@@ -112,7 +120,7 @@ fn add_identifier<'v>(
     add(alloc, list, site, Some(keyword), problem)
 }
 
-// Adds what is wrong with its reference.
+// Adds what is wrong with its `$ref`.
 fn add_reference<'v>(
     alloc: Global,
     list: &mut Vec<Finding<'v>>,
@@ -122,12 +130,31 @@ fn add_reference<'v>(
     ensures { Adds list.old.items list.new.items result
         (reference_findings (known_in known.now) (site_of site.now)) }
 {
-    let Some(reference) = site.place.reference() else {
+    let Some(value) = site.place.reference_value() else {
         return Ok(());
     };
-    let base = nearest_base(alloc, &site.place.outer, site.place.id())?;
-    let problem = known.of_reference(alloc, &base, reference);
+    let problem = known.of_value(alloc, site, value);
     add(alloc, list, site, Some(Keyword::Ref), problem)
+}
+
+// Adds what is wrong with its dynamic reference, where its draft has one.
+fn add_dynamic<'v>(
+    alloc: Global,
+    list: &mut Vec<Finding<'v>>,
+    known: &Known<'_, 'v>,
+    site: &Site<'_, 'v>,
+) -> Result<(), AllocError>
+    ensures { Adds list.old.items list.new.items result
+        (dynamic_findings (known_in known.now) (site_of site.now)) }
+{
+    let Some(keyword) = Keyword::of_dynamic(site.place.draft) else {
+        return Ok(());
+    };
+    let Some(value) = site.place.dynamic_value(keyword) else {
+        return Ok(());
+    };
+    let problem = known.of_dynamic(alloc, site, value);
+    add(alloc, list, site, Some(keyword), problem)
 }
 
 // Adds what is wrong with the name of its meta-schema.
@@ -157,11 +184,11 @@ fn add_anchor<'v>(
     base: &Rc<Uri>,
     anchor: Anchor<'v>,
 ) -> Result<(), AllocError>
-    ensures { base.now.value ≡ nearest_base (site_of site.now).1
-        → Adds list.old.items list.new.items result
+    requires { base.now.value ≡ nearest_base (site_of site.now).1 }
+    ensures { Adds list.old.items list.new.items result
         (anchor_finding (known_in known.now) number (site_of site.now) (anchor_name anchor.entry)) }
 {
-    let problem = known.of_name(alloc, number, base, anchor.name());
+    let problem = known.of_anchor(alloc, number, site, base, anchor.name());
     let keyword = Keyword::of_anchor(site.place.draft, &anchor);
     add(alloc, list, site, Some(keyword), problem)
 }
@@ -209,6 +236,7 @@ fn add_site<'v>(
     }
     add_identifier(alloc, list, known, number, site)?;
     add_reference(alloc, list, known, site)?;
+    add_dynamic(alloc, list, known, site)?;
     add_schema(alloc, list, known, site)?;
     add_anchors(alloc, list, known, number, site)
 }
@@ -226,27 +254,87 @@ fn no_json<'v>(alloc: Global, number: usize) -> Finding<'v>
     }
 }
 
+// The keyword at its root by which a document is an API description, where it is one.
+fn description_keyword(value: &Value) -> Option<&'static str>
+    ensures { option_map (λ k. k.now) result ≡ description_keyword (view value.now) }
+{
+    for keyword in ["openapi", "swagger", "asyncapi"] {
+        if text_under(value, keyword).is_some() {
+            return Some(keyword);
+        }
+    }
+    None
+}
+
+// That the source with a number is a description, by this keyword.
+fn not_checked<'v>(
+    alloc: Global,
+    number: usize,
+    value: &'v Value,
+    keyword: &'static str,
+) -> Finding<'v>
+    ensures { IsFindingOf result (not_checked number (view value.now) keyword.now) }
+{
+    Finding {
+        source: number,
+        path: Vec::new(alloc),
+        keyword: Some(keyword),
+        text: text_under(value, keyword),
+        problem: Problem::NotChecked,
+    }
+}
+
+// Adds that a document is a description, where it is one.
+fn add_description<'v>(
+    alloc: Global,
+    list: &mut Vec<Finding<'v>>,
+    number: usize,
+    value: &'v Value,
+) -> Result<(), AllocError>
+    ensures { Adds list.old.items list.new.items result
+        (description_findings number (view value.now)) }
+{
+    let Some(keyword) = description_keyword(value) else {
+        return Ok(());
+    };
+    let finding = not_checked(alloc, number, value, keyword);
+    list.push(finding)?;
+    Ok(())
+}
+
 // Adds that a source is no JSON, where it isn't.
+fn add_not_json<'v>(
+    alloc: Global,
+    list: &mut Vec<Finding<'v>>,
+    number: usize,
+) -> Result<(), AllocError>
+    ensures { Adds list.old.items list.new.items result (no_json number ∷ []) }
+{
+    let finding = no_json(alloc, number);
+    list.push(finding)?;
+    Ok(())
+}
+
+// Adds what is found of a source as a whole.
 fn add_source<'v>(
     alloc: Global,
     list: &mut Vec<Finding<'v>>,
     number: usize,
     source: &Source<'v>,
 ) -> Result<(), AllocError>
-    ensures { Adds list.old.items list.new.items result (not_json (number, source_of source.now)) }
+    ensures { Adds list.old.items list.new.items result
+        (whole_findings (number, source_of source.now)) }
 {
-    if source.value.is_some() {
-        return Ok(());
+    match source.value {
+        Some(value) => add_description(alloc, list, number, value),
+        None => add_not_json(alloc, list, number),
     }
-    let finding = no_json(alloc, number);
-    list.push(finding)?;
-    Ok(())
 }
 
-// Which sources are no JSON.
-fn unread<'v>(alloc: Global, sources: &[Source<'v>]) -> Result<Vec<Finding<'v>>, AllocError>
+// What is found of sources as a whole.
+fn of_sources<'v>(alloc: Global, sources: &[Source<'v>]) -> Result<Vec<Finding<'v>>, AllocError>
     ensures { IfOk result
-        (λ list. AllZip IsFindingOf list.items (unread_sources (map source_of sources.now))) }
+        (λ list. AllZip IsFindingOf list.items (sources_findings (map source_of sources.now))) }
 {
     let mut list = Vec::new(alloc);
     for (number, source) in sources.iter().enumerate() {
@@ -280,54 +368,180 @@ fn listed<'v>(
 ) -> Result<Vec<Finding<'v>>, AllocError>
     ensures { IfOk result
         (λ list. AllZip IsFindingOf list.items
-        (unread_sources (map source_of sources.now)
+        (sources_findings (map source_of sources.now)
         ++ place_findings (known_in known.now) (map site_of sites.now))) }
 {
-    let mut list = unread(alloc, sources)?;
+    let mut list = of_sources(alloc, sources)?;
     add_sites(alloc, &mut list, known, sites)?;
     Ok(list)
 }
 
-// How many places have a reference.
-fn count_references(sites: &[Site<'_, '_>]) -> usize
-    ensures { result ≡ length (filter has_reference (map site_of sites.now)) }
+// How many references a place has.
+fn references_at(site: &Site<'_, '_>) -> usize
+    ensures { result ≡ length (references_at (site_of site.now)) }
 {
     let mut count = 0;
-    for site in sites {
-        if site.place.reference().is_some() {
-            count += 1;
-        }
+    if site.place.reference().is_some() {
+        count = 1;
+    }
+    if site.place.dynamic().is_some() {
+        count += 1;
     }
     count
 }
 
-// What is found at places, by the index of the sources that are sound and the URIs of the others.
-fn reported<'k, 'v>(
+// How many references places have.
+fn count_references(sites: &[Site<'_, '_>]) -> usize
+    ensures { result ≡ length (flat_map references_at (map site_of sites.now)) }
+{
+    let mut count: usize = 0;
+    for site in sites {
+        count += references_at(site);
+    }
+    count
+}
+
+// The places of sources, and which URIs and names they have.
+fn bearers_of<'p, 'v>(
     alloc: Global,
     sources: &[Source<'v>],
-    index: &'k Index<'v>,
-    unsound: &'k SortedTable<usize>,
-    sites: &'k [Site<'k, 'v>],
+    held: &[Source<'v>],
+    surveys: &'p [Survey<'_, 'v>],
+) -> Result<Bearers<'p, 'v>, AllocError>
+    ensures sites { IfOk result
+        (λ b. map site_of b.sites.items
+        ≡ flat_map numbered_sites
+        (enumerate_from 0 (map (λ s. (seen_survey s).places) surveys.now))) }
+    ensures tables { IfOk result AreBearers }
+    ensures unread { IfOk result
+        (λ b. b.unread ≡ unread_uris (map source_of sources.now) (map source_of held.now)) }
+{
+    let unread = unread_of(alloc, sources, held)?;
+    let sites = sites_of(alloc, surveys)?;
+    let uris = uris_of(alloc, sites.as_slice())?;
+    let names = names_of(alloc, sites.as_slice())?;
+    Ok(Bearers {
+        sites,
+        uris,
+        names,
+        unread,
+    })
+}
+
+// The index of all documents, and that of each source alone, where some URI is had twice.
+#[derive(Drop)]
+struct Indexes<'m> {
+    all: Index<'m>,
+    own: Vec<Index<'m>>,
+}
+
+// The index of each source alone, where some URI is had twice.
+fn own_of<'m>(
+    alloc: Global,
+    draft: Draft,
+    surveys: &[Survey<'_, 'm>],
+    is_any_twice: bool,
+) -> Result<Vec<Index<'m>>, AllocError>
+    requires surveys { AreSurveys draft (map seen_survey surveys.now) }
+    requires are_there { AllByRecursion PlacesAreThere surveys.now }
+    ensures { IfOk result
+        (λ list. list.items
+        ≡ (if is_any_twice then map (sound_in draft) (map seen_survey surveys.now) else [])) }
+{
+    if !is_any_twice {
+        return Ok(Vec::new(alloc));
+    }
+    own_indexes(alloc, draft, surveys)
+}
+
+// The indexes of sources and of others.
+fn indexes_of<'m>(
+    alloc: Global,
+    draft: Draft,
+    surveys: &[Survey<'_, 'm>],
+    others: &[Survey<'_, 'm>],
+    is_any_twice: bool,
+) -> Result<Indexes<'m>, AllocError>
+    requires surveys { AreSurveys draft (map seen_survey surveys.now) }
+    requires others { AreSurveys draft (map seen_survey others.now) }
+    requires are_there { AllByRecursion PlacesAreThere surveys.now }
+    requires others_are_there { AllByRecursion PlacesAreThere others.now }
+    ensures all { IfOk result
+        (λ i. i.all
+        ≡ flat_map (sound_in draft) (map seen_survey surveys.now)
+        ++ flat_map (sound_in draft) (map seen_survey others.now)) }
+    ensures own { IfOk result
+        (λ i. i.own.items
+        ≡ (if is_any_twice then map (sound_in draft) (map seen_survey surveys.now) else [])) }
+{
+    let all = index_of(alloc, draft, surveys, others)?;
+    let own = own_of(alloc, draft, surveys, is_any_twice)?;
+    Ok(Indexes { all, own })
+}
+
+// An index alone, as what is above another.
+fn alone<'k>(alloc: Global, index: &'k Index<'k>) -> Result<Vec<&'k Index<'k>>, AllocError>
+    ensures { IfOk result (λ list. map (λ i. i.now) list.items ≡ index.now ∷ []) }
+{
+    let mut list = Vec::new(alloc);
+    list.push(index)?;
+    Ok(list)
+}
+
+// What is known of all sources.
+fn known_of<'k, 'v>(
+    layers: Layers<'k>,
+    above: &'k [&'k Index<'k>],
+    indexes: &'k Indexes<'k>,
+    bearers: &'k Bearers<'k, 'v>,
+) -> Known<'k, 'v>
+    requires tables { AreBearers bearers.now }
+    requires all { world_in layers ≡ map (λ p. p.now) above.now }
+    ensures { known_in result
+        ≡ record {
+          world = world_in layers.entry;
+          own = indexes.now.own.items;
+          unread = bearers.now.unread;
+          sites = map site_of bearers.now.sites.items;
+          uris = uris_borne (map site_of bearers.now.sites.items);
+          names = names_borne (map site_of bearers.now.sites.items);
+        } }
+{
+    Known {
+        sites: bearers.sites.as_slice(),
+        layers,
+        above,
+        own: indexes.own.as_slice(),
+        unread: &bearers.unread,
+        uris: &bearers.uris.firsts,
+        lasts: &bearers.uris.lasts,
+        names: &bearers.names,
+    }
+}
+
+// What is found at places, by the indexes of the sources as they are read.
+fn reported<'v>(
+    alloc: Global,
+    sources: &[Source<'v>],
+    indexes: &Indexes<'_>,
+    bearers: &Bearers<'_, 'v>,
 ) -> Result<Report<'v>, AllocError>
+    requires tables { AreBearers bearers.now }
     ensures findings { IfOk result
         (λ report. AllZip IsFindingOf report.findings.items
-        (unread_sources (map source_of sources.now)
-        ++ place_findings (known_among index.now unsound.now (map site_of sites.now))
-        (map site_of sites.now))) }
+        (sources_findings (map source_of sources.now)
+        ++ place_findings
+        (known_among indexes.now.all indexes.now.own.items bearers.now.unread
+        (map site_of bearers.now.sites.items)) (map site_of bearers.now.sites.items))) }
     ensures references { IfOk result
-        (λ report. report.references ≡ length (filter has_reference (map site_of sites.now))) }
+        (λ report. report.references
+        ≡ length (flat_map references_at (map site_of bearers.now.sites.items))) }
 {
-    let uris = uris_of(alloc, sites)?;
-    let names = names_of(alloc, sites)?;
     let parents = Vec::new(alloc);
-    let layers = Layers::new(&*index, parents.as_slice());
-    let known = Known {
-        sites: &*sites,
-        layers,
-        unsound: &*unsound,
-        uris: &uris,
-        names: &names,
-    };
+    let layers = Layers::new(&indexes.all, parents.as_slice());
+    let above = alone(alloc, &indexes.all)?;
+    let known = known_of(layers, above.as_slice(), &*indexes, &*bearers);
+    let sites = bearers.sites.as_slice();
     let findings = listed(alloc, sources, &known, sites)?;
     Ok(Report {
         findings,
@@ -335,47 +549,91 @@ fn reported<'k, 'v>(
     })
 }
 
-// What is found in sources, by their places and those of what is held beside them.
-fn surveyed<'v>(
+// What is found where the sources are surveyed again as they are read.
+fn read_again<'m, 'v: 'm>(
     alloc: Global,
     draft: Draft,
     sources: &[Source<'v>],
-    held: &[Source<'v>],
-    surveys: &[Survey<'_, 'v>],
-    others: &[Survey<'_, 'v>],
+    surveys: &'m [Survey<'_, 'v>],
+    others: &'m [Survey<'_, 'v>],
+    bearers: &Bearers<'_, 'v>,
 ) -> Result<Report<'v>, AllocError>
-    requires surveys { map seen_survey surveys.now
-        ≡ map (survey_in draft) (map source_of sources.now) }
-    requires others { map seen_survey others.now
-        ≡ map (survey_in draft) (map source_of held.now) }
-    requires are_there { AllByRecursion PlacesAreThere surveys.now }
-    requires others_are_there { AllByRecursion PlacesAreThere others.now }
+    requires tables { AreBearers bearers.now }
     ensures findings { IfOk result
         (λ report. AllZip IsFindingOf report.findings.items
-        (findings draft (map source_of sources.now) (map source_of held.now))) }
+        (sources_findings (map source_of sources.now)
+        ++ place_findings
+        (known_read draft (map read_of (map seen_survey surveys.now))
+        (map read_of (map seen_survey others.now)) bearers.now.uris.is_any_twice
+        bearers.now.unread (map site_of bearers.now.sites.items))
+        (map site_of bearers.now.sites.items))) }
     ensures references { IfOk result
-        (λ report. report.references ≡ references draft (map source_of sources.now)) }
+        (λ report. report.references
+        ≡ length (flat_map references_at (map site_of bearers.now.sites.items))) }
 {
-    let index = index_of(alloc, draft, surveys, others)?;
-    let unsound = unsound_of(alloc, surveys, others)?;
-    let sites = sites_of(alloc, surveys)?;
-    reported(alloc, sources, &index, &unsound, sites.as_slice())
+    let own = read_sources(alloc, surveys)?;
+    let held = read_sources(alloc, others)?;
+    let again = surveys_of(alloc, draft, own.as_slice())?;
+    let others_again = surveys_of(alloc, draft, held.as_slice())?;
+    let indexes = indexes_of(
+        alloc,
+        draft,
+        again.as_slice(),
+        others_again.as_slice(),
+        bearers.uris.is_any_twice,
+    )?;
+    reported(alloc, sources, &indexes, bearers)
 }
 
-/// All that is wrong with the references of sources, and what is to be noted: first those sources that are no JSON,
-/// then source by source what is wrong at its places, level by level. `held` are other documents that references may
-/// lead to.
+// What is found in sources, by their places and those of what is held beside them.
+fn surveyed<'m, 'v: 'm>(
+    alloc: Global,
+    draft: Draft,
+    sources: &[Source<'v>],
+    surveys: &'m [Survey<'_, 'v>],
+    others: &'m [Survey<'_, 'v>],
+    bearers: &Bearers<'_, 'v>,
+) -> Result<Report<'v>, AllocError>
+    requires surveys { AreSurveys draft (map seen_survey surveys.now) }
+    requires others { AreSurveys draft (map seen_survey others.now) }
+    requires are_there { AllByRecursion PlacesAreThere surveys.now }
+    requires others_are_there { AllByRecursion PlacesAreThere others.now }
+    requires tables { AreBearers bearers.now }
+    ensures findings { IfOk result
+        (λ report. AllZip IsFindingOf report.findings.items
+        (sources_findings (map source_of sources.now)
+        ++ place_findings
+        (known_read draft (map read_of (map seen_survey surveys.now))
+        (map read_of (map seen_survey others.now)) bearers.now.uris.is_any_twice
+        bearers.now.unread (map site_of bearers.now.sites.items))
+        (map site_of bearers.now.sites.items))) }
+    ensures references { IfOk result
+        (λ report. report.references
+        ≡ length (flat_map references_at (map site_of bearers.now.sites.items))) }
+{
+    if is_any_mended(surveys) || is_any_mended(others) {
+        return read_again(alloc, draft, sources, surveys, others, bearers);
+    }
+    let indexes = indexes_of(alloc, draft, surveys, others, bearers.uris.is_any_twice)?;
+    reported(alloc, sources, &indexes, bearers)
+}
+
+/// All that is wrong with the references of sources, and what is to be noted: first those sources that are no JSON or API
+/// descriptions, then source by source what is wrong at its places, level by level. `held` are other documents that references
+/// may lead to.
 ///
 /// At a place these come in order: that the URI of its source is that of an earlier place, where it is the root; that
-/// its identifier means no URI, or that of an earlier place; that its `$ref` means no URI or is unresolvable; that its
-/// `$schema` means no URI, or no dialect that is known; and that each of its anchors has the name of an earlier place
-/// with the same base.
+/// its identifier means no URI, or that of an earlier place; that its `$ref` is no text, means no URI or is unresolvable; the same
+/// of its `$dynamicRef` or `$recursiveRef`, where its draft has one; that its `$schema` means no URI, or no dialect that is
+/// known; and that each of its anchors begins with a slash, or has the name of an earlier place of its source with the same base.
 ///
-/// A document that is no JSON or has a text that means no URI is no part of what references are looked up in, and a
-/// reference to a URI of it is not listed. Below a place whose identifier means no URI the base stays that of the place
-/// around it.
+/// What means no URI counts as `null`: all else of its document is read, and below an identifier that means none the base stays
+/// that of the place around it. A document that is no JSON has no places; a reference to its URI is not listed. Where several
+/// sources have one URI, a reference that points into it from a place whose base it is is looked up in its own source first; any
+/// other leads to the last of these.
 ///
-/// Fails only if out of memory. Each place is visited twice, each reference looked up once; no value is copied.
+/// Fails only if out of memory. Each place is visited twice, each reference looked up once. A document with a text that means no
+/// URI is copied, and no other value.
 pub fn report<'v>(
     alloc: Global,
     draft: Draft,
@@ -390,13 +648,14 @@ pub fn report<'v>(
 {
     let surveys = surveys_of(alloc, draft, sources)?;
     let others = surveys_of(alloc, draft, held)?;
+    let bearers = bearers_of(alloc, sources, held, surveys.as_slice())?;
     surveyed(
         alloc,
         draft,
         sources,
-        held,
         surveys.as_slice(),
         others.as_slice(),
+        &bearers,
     )
 }
 

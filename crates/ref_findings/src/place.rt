@@ -1,5 +1,5 @@
 //! A place where a schema is.
-ghost use Rattle.std.specs.Prelude.{◌≡◌, true, map, option_map, IfOk};
+ghost use Rattle.std.specs.Prelude.{◌≡◌, true, map, option_map, option_and_then, Some, IfOk};
 ghost use Rattle.ref_index.specs.Visit.{place_of as visited_place};
 ghost use Rattle.serde_json.specs.View.{view};
 ghost use Rattle.ref_draft.specs.Schema.{text_under as text_in};
@@ -7,6 +7,7 @@ ghost use Rattle.ref_draft.specs.Anchors.{anchors as anchors_of};
 ghost use Rattle.ref_findings.specs.inner.Plain.{IsPlain, AreAmong};
 
 use crate::finding::text_under;
+use crate::keyword::Keyword;
 use crate::texts::{Texts, texts_of};
 use ref_draft::{AnchorIter, Draft, ResourceRef};
 use ref_index::{Below, ValueRef, Visit};
@@ -31,7 +32,10 @@ impl<'v> Place<'v> {
     ghost use Rattle.std.specs.Prelude.{codes};
     ghost use Rattle.ref_draft.specs.Views.{anchor_name, anchors_left};
     ghost use Rattle.ref_definitions.specs.Places.{identifier_of};
+    ghost use Rattle.serde_json.specs.Find.{get};
     ghost use Rattle.ref_findings.specs.Bearers.{is_root};
+    ghost use Rattle.ref_findings.specs.Places.{dynamic_keyword};
+    ghost use Rattle.ref_findings.specs.inner.Keywords.{keyword_text};
     ghost use Rattle.ref_index.specs.Visit.{place_with};
     ghost use Rattle.ref_findings.specs.inner.Seen.{place_of};
 
@@ -80,6 +84,39 @@ impl<'v> Place<'v> {
             return None;
         }
         text_under(self.value, "$ref")
+    }
+
+    /// The value under `$ref`. Takes no memory.
+    pub fn reference_value(&self) -> Option<&'v Value>
+        ensures value { option_map (λ v. view v.now) result
+            ≡ get (codes "$ref") (place_of self.now).value }
+    {
+        if !self.texts.reference {
+            return None;
+        }
+        self.value.get("$ref")
+    }
+
+    /// The text under the keyword that its draft has for dynamic references. Takes no memory.
+    pub fn dynamic(&self) -> Option<&'v str>
+        ensures value { option_map (λ text. text.now) result
+            ≡ option_and_then (λ k. text_in k (place_of self.now).value)
+            (dynamic_keyword (place_of self.now).draft) }
+    {
+        let keyword = Keyword::of_dynamic(self.draft)?;
+        self.dynamic_value(keyword)?.as_str()
+    }
+
+    /// The value under the keyword that its draft has for dynamic references. Takes no memory.
+    pub fn dynamic_value(&self, keyword: Keyword) -> Option<&'v Value>
+        requires { Some (keyword_text keyword) ≡ dynamic_keyword self.now.draft }
+        ensures value { option_map (λ v. view v.now) result
+            ≡ get (keyword_text keyword) (place_of self.now).value }
+    {
+        if !self.texts.dynamic {
+            return None;
+        }
+        self.value.get(keyword.text())
     }
 
     /// The text under `$schema`. Takes no memory.

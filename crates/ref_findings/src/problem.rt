@@ -1,5 +1,5 @@
 //! What is wrong at a place, text by text.
-ghost use Rattle.std.specs.Prelude.{◌≡◌, ◌==◌, ◌||◌, [], IfOk, map, not, bytes_eq, option_copied, Some, Ok};
+ghost use Rattle.std.specs.Prelude.{◌≡◌, ◌==◌, ◌||◌, [], IfOk, map, not, bytes_eq, reverse, slice_get, option_map, option_and_then, option_copied, Some, Ok};
 ghost use Rattle.std.specs.List.{list_any};
 ghost use Rattle.ref_uri.specs.Targets.{target};
 ghost use Rattle.ref_draft.specs.Keywords.{is_unknown};
@@ -9,35 +9,29 @@ ghost use Rattle.ref_definitions.specs.Places.{base_within};
 ghost use Rattle.ref_definitions.specs.Fault.{Fault};
 ghost use Rattle.ref_definitions.specs.Lookup.{lookup};
 ghost use Rattle.ref_resolver.specs.Layered.{world_in};
-ghost use Rattle.ref_findings.specs.Bearers.{other_bearer};
-ghost use Rattle.ref_findings.specs.Findings.{is_among, is_meta_schema, missing_problem, by_fault, by_target, is_dialect, by_dialect, reference_problem, schema_problem, uri_problem, by_base, name_problem};
+ghost use Rattle.serde_json.specs.View.{view};
+ghost use Rattle.ref_parts.specs.Table.{last_value};
+ghost use Rattle.ref_findings.specs.Bearers.{first_under, other_bearer};
+ghost use Rattle.ref_findings.specs.Findings.{is_among, is_meta_schema, missing_problem, by_fault, is_doubled, world_at, by_target, is_dialect, by_dialect, reference_problem, value_problem, recursive_text_problem, recursive_problem, dynamic_problem, schema_problem, uri_problem, by_base, name_problem, anchor_problem};
+ghost use Rattle.ref_findings.specs.Places.{nearest_base};
 ghost use Rattle.ref_findings.specs.inner.Meanings.{IsMeaning, IsMaybe, IsWhy, IsBearer, is_unretrievable};
 ghost use Rattle.ref_findings.specs.inner.Meanings as meanings;
-ghost use Rattle.ref_findings.specs.inner.Seen.{known_in};
+ghost use Rattle.ref_findings.specs.inner.Seen.{site_of, known_in};
 
-use crate::base::{Meaning, base_of, meta_schema_uri, target_of};
+use crate::base::{Meaning, base_of, meta_schema_uri, nearest_base, target_of};
 use crate::finding::{Bearer, Problem};
+use crate::known::Known;
 use crate::site::Site;
 use ref_draft::{Draft, meta, trim_hashes};
 use ref_error::Error;
 use ref_index::segments_of;
-use ref_parts::{List, SortedTable};
+use ref_parts::List;
 use ref_resolver::{Layers, Resolver};
 use ref_uri::Uri;
 use ref_uri::parts::{parts, uri_part};
+use serde_json::Value;
 use std::alloc::{AllocError, Global};
 use std::rc::Rc;
-
-/// What is known of all sources: the places of those that are read for findings, the documents that are sound, the URIs of the
-/// others, and which place is the first to have each URI and each name.
-#[derive(Drop)]
-pub(crate) struct Known<'k, 'v> {
-    pub sites: &'k [Site<'k, 'v>],
-    pub layers: Layers<'k>,
-    pub unsound: &'k SortedTable<usize>,
-    pub uris: &'k SortedTable<usize>,
-    pub names: &'k SortedTable<usize>,
-}
 
 // Whether a URI is that of a draft's own meta-schema.
 fn is_of_draft(uri: &str) -> bool
@@ -135,29 +129,102 @@ fn unresolvable_problem<'v>(uri: Rc<Uri>, reference: &str, error: Error) -> Opti
     Some(Problem::LeadsNowhere { uri, error })
 }
 
+// What is wrong with the text of a `$recursiveRef`.
+fn recursive_text_problem<'v>(text: &str) -> Option<Problem<'v>>
+    ensures { IsMaybe (recursive_text_problem text.now) result }
+{
+    if text == "#" {
+        return None;
+    }
+    Some(Problem::RecursiveElsewhere)
+}
+
+// What is wrong with a value there.
+fn recursive_problem<'v>(value: &Value) -> Option<Problem<'v>>
+    ensures { IsMaybe (recursive_problem (view value.now)) result }
+{
+    match value.as_str() {
+        Some(text) => recursive_text_problem(text),
+        None => Some(Problem::NotAText),
+    }
+}
+
 impl<'k, 'v> Known<'k, 'v> {
-    // Whether a URI is one of a source that isn't sound, or of its places.
-    fn is_unsound(&self, uri: &str) -> bool
-        ensures { result ≡ is_among uri.now (known_in self.now).unsound }
+    // Whether a URI is that of a source that is no JSON.
+    fn is_unread(&self, uri: &str) -> bool
+        ensures { result ≡ is_among uri.now (known_in self.now).unread }
     {
-        self.unsound.get(uri, "").0.is_some()
+        self.unread.get(uri, "").0.is_some()
+    }
+
+    // The first place that has a URI, and the last one.
+    fn first_site(&self, uri: &str) -> Option<&Site<'k, 'v>>
+        ensures { option_map (λ s. site_of s.now) result
+            ≡ option_and_then (slice_get (known_in self.now).sites)
+            (first_under uri.now [] (known_in self.now).uris) }
+    {
+        let number = self.uris.get(uri, "").0?;
+        self.sites.get(*number)
+    }
+
+    fn last_site(&self, uri: &str) -> Option<&Site<'k, 'v>>
+        ensures { option_map (λ s. site_of s.now) result
+            ≡ option_and_then (slice_get (known_in self.now).sites)
+            (last_value uri.now [] (known_in self.now).uris) }
+    {
+        let number = self.lasts.get(uri, "").0?;
+        self.sites.get(*number)
+    }
+
+    // Whether the first place that has a URI and the last one are in two sources.
+    fn is_doubled(&self, uri: &str) -> bool
+        ensures { result ≡ is_doubled (known_in self.now) uri.now }
+    {
+        let Some(first) = self.first_site(uri) else {
+            return false;
+        };
+        let Some(last) = self.last_site(uri) else {
+            return false;
+        };
+        first.source != last.source
+    }
+
+    // Where a reference of a place with a base is looked up, which points into a URI.
+    fn layers_at(&self, site: &Site<'_, 'v>, base: &Uri, uri: &str) -> Layers<'k>
+        requires { base.now ≡ nearest_base (site_of site.now).1 }
+        ensures { world_in result ≡ world_at (known_in self.now) (site_of site.now) uri.now }
+    {
+        if uri != base.as_str() {
+            return self.layers;
+        }
+        if !self.is_doubled(uri) {
+            return self.layers;
+        }
+        match self.own.get(site.source) {
+            Some(own) => Layers::new(own, self.above),
+            None => self.layers,
+        }
     }
 
     // What is wrong with a reference whose URI is known.
     fn followed(
         &self,
         alloc: Global,
+        site: &Site<'_, 'v>,
         base: &Rc<Uri>,
         reference: &str,
         uri: Rc<Uri>,
     ) -> Result<Option<Problem<'v>>, AllocError>
+        requires { base.now.value ≡ nearest_base (site_of site.now).1 }
         ensures { IfOk result
-            (IsMaybe (by_target (known_in self.now) base.now.value reference.now (Ok uri.value))) }
+            (IsMaybe
+            (by_target (known_in self.now) (site_of site.now) reference.now (Ok uri.value))) }
     {
-        if self.is_unsound(uri.as_str()) {
+        if self.is_unread(uri.as_str()) {
             return Ok(None);
         }
-        match fault_at(alloc, self.layers, base, reference)? {
+        let layers = self.layers_at(site, base, uri.as_str());
+        match fault_at(alloc, layers, base, reference)? {
             Some(error) => Ok(unresolvable_problem(uri, reference, error)),
             None => Ok(None),
         }
@@ -179,19 +246,57 @@ impl<'k, 'v> Known<'k, 'v> {
         }
     }
 
-    /// What is wrong with a text under `$ref`, from a base.
-    pub fn of_reference(
+    // What is wrong with the text of a reference at a place with a base.
+    fn of_reference(
         &self,
         alloc: Global,
+        site: &Site<'_, 'v>,
         base: &Rc<Uri>,
         reference: &str,
     ) -> Result<Option<Problem<'v>>, AllocError>
-        ensures value { IfOk result
-            (IsMaybe (reference_problem (known_in self.now) base.now.value reference.now)) }
+        requires { base.now.value ≡ nearest_base (site_of site.now).1 }
+        ensures { IfOk result
+            (IsMaybe (reference_problem (known_in self.now) (site_of site.now) reference.now)) }
     {
         match self.target(alloc, base, reference)? {
-            Ok(uri) => self.followed(alloc, base, reference, uri),
+            Ok(uri) => self.followed(alloc, site, base, reference, uri),
             Err(error) => Ok(Some(Problem::InvalidUri(error))),
+        }
+    }
+
+    /// What is wrong with a value under `$ref` or `$dynamicRef` of a place, which is to be a text.
+    pub fn of_value(
+        &self,
+        alloc: Global,
+        site: &Site<'_, 'v>,
+        value: &Value,
+    ) -> Result<Option<Problem<'v>>, AllocError>
+        ensures value { IfOk result
+            (IsMaybe (value_problem (known_in self.now) (site_of site.now) (view value.now))) }
+    {
+        let Some(reference) = value.as_str() else {
+            return Ok(Some(Problem::NotAText));
+        };
+        let base = nearest_base(alloc, &site.place.outer, site.place.id())?;
+        self.of_reference(alloc, site, &base, reference)
+    }
+
+    /// What is wrong with a value under the keyword that the draft of a place has for dynamic references.
+    pub fn of_dynamic(
+        &self,
+        alloc: Global,
+        site: &Site<'_, 'v>,
+        value: &Value,
+    ) -> Result<Option<Problem<'v>>, AllocError>
+        ensures value { IfOk result
+            (IsMaybe
+            (dynamic_problem (site_of site.now).1.draft (known_in self.now) (site_of site.now)
+            (view value.now))) }
+    {
+        match site.place.draft {
+            Draft::Draft4 | Draft::Draft6 | Draft::Draft7 => Ok(None),
+            Draft::Draft201909 => Ok(recursive_problem(value)),
+            Draft::Draft202012 | Draft::Unknown => self.of_value(alloc, site, value),
         }
     }
 
@@ -200,9 +305,9 @@ impl<'k, 'v> Known<'k, 'v> {
         ensures { result ≡ is_dialect (known_in self.now) uri.now }
     {
         let of_draft = is_meta_schema(uri);
-        let unsound = self.is_unsound(uri);
+        let unread = self.is_unread(uri);
         let there = self.layers.has_resource(uri);
-        let other = either(unsound, there);
+        let other = either(unread, there);
         either(of_draft, other)
     }
 
@@ -299,22 +404,47 @@ impl<'k, 'v> Known<'k, 'v> {
         }
     }
 
-    /// What is wrong with the name of an anchor that the place with a number has under a base.
-    pub fn of_name(
+    // What is wrong with the name of an anchor that the place with a number has under its base: an earlier place of its source has
+    // it.
+    fn of_name(
         &self,
         alloc: Global,
         number: usize,
+        site: &Site<'_, 'v>,
         base: &Rc<Uri>,
         name: &str,
     ) -> Result<Option<Problem<'v>>, AllocError>
-        ensures value { IfOk result
-            (IsMaybe (name_problem (known_in self.now) number base.now.value name.now)) }
+        requires { base.now.value ≡ nearest_base (site_of site.now).1 }
+        ensures { IfOk result
+            (IsMaybe (name_problem (known_in self.now) number (site_of site.now) name.now)) }
     {
         let first = self.names.get(base.as_str(), name).0;
         let Some(first) = self.bearer(alloc, number, first)? else {
             return Ok(None);
         };
+        if first.source != site.source {
+            return Ok(None);
+        }
         let uri = base.clone()?;
         Ok(Some(Problem::DuplicateAnchor { uri, first }))
+    }
+
+    /// What is wrong with an anchor that the place with a number has under its base.
+    pub fn of_anchor(
+        &self,
+        alloc: Global,
+        number: usize,
+        site: &Site<'_, 'v>,
+        base: &Rc<Uri>,
+        name: &str,
+    ) -> Result<Option<Problem<'v>>, AllocError>
+        requires { base.now.value ≡ nearest_base (site_of site.now).1 }
+        ensures value { IfOk result
+            (IsMaybe (anchor_problem (known_in self.now) number (site_of site.now) name.now)) }
+    {
+        if name.starts_with('/') {
+            return Ok(Some(Problem::NamesNothing));
+        }
+        self.of_name(alloc, number, site, base, name)
     }
 }

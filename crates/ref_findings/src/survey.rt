@@ -1,33 +1,56 @@
 //! The places of sources, and the index of those sources that are sound.
-ghost use Rattle.std.specs.Prelude.{◌≡◌, List, [], ◌∷◌, ◌++◌, map, flat_map, true, Some, IfOk, OnOk};
-ghost use Rattle.std.specs.List.{AllByRecursion, enumerate_from};
+ghost use Rattle.std.specs.Prelude.{◌≡◌, List, [], ◌∷◌, ◌++◌, map, flat_map, true, Some, None, option_map, if◌then◌else◌, IfOk, OnOk};
+ghost use Rattle.std.specs.List.{AllByRecursion, list_any, enumerate_from};
 ghost use Rattle.serde_json.specs.View.{view};
-ghost use Rattle.ref_definitions.specs.World.{document};
 ghost use Rattle.ref_definitions.specs.Places.{Place as WorldPlace};
 ghost use Rattle.ref_definitions.specs.Wants.{faults};
 ghost use Rattle.ref_findings.specs.Bearers.{numbered_sites};
+ghost use Rattle.ref_findings.specs.Places.{document};
+ghost use Rattle.ref_findings.specs.Mending.{mended_tree};
 ghost use Rattle.ref_findings.specs.Entries.{source_of};
 ghost use Rattle.ref_index.specs.Listed.{AreNoted};
 ghost use Rattle.ref_index.specs.Visit.{place_of as visited_place};
-ghost use Rattle.ref_findings.specs.inner.Seen.{place_of, site_of, seen_survey, survey_in, sound_in, AreSurveys, PlacesAreThere};
+ghost use Rattle.ref_findings.specs.inner.Seen.{place_of, site_of, seen_survey, survey_in, sound_in, read_of, has_mended, AreSurveys, PlacesAreThere};
 
 use crate::fault::is_any_faulty;
+use crate::mending::mended_tree;
 use crate::place::Place;
 use crate::site::Site;
 use crate::source::Source;
-use crate::walk::places_of;
+use crate::walk::{places_of, read_draft};
 use ref_draft::Draft;
 use ref_index::{Contents, Document, Index, Visit, Walked};
 use ref_uri::UriFault;
 use serde_json::Value;
 use std::alloc::{AllocError, Global};
 
-/// A source with its places, and whether it is JSON without a text that means no URI.
+/// A source with its places, whether it is JSON without a text that means no URI, and the tree that is read in place of its own
+/// where it is JSON with such a text: `null` is in place of each.
 #[derive(Drop)]
 pub(crate) struct Survey<'s, 'v> {
     pub source: &'s Source<'v>,
     pub places: Vec<Place<'v>>,
     pub is_sound: bool,
+    pub mended: Option<Value>,
+}
+
+// The tree that is read in place of a document's own, where it isn't sound.
+fn mended_for(
+    alloc: Global,
+    places: &[Place<'_>],
+    value: &Value,
+    is_sound: bool,
+) -> Result<Option<Value>, AllocError>
+    ensures { IfOk result
+        (λ tree. option_map view tree
+        ≡ (if is_sound then None
+        else Some (mended_tree (map place_of places.now) (view value.now)))) }
+{
+    if is_sound {
+        return Ok(None);
+    }
+    let tree = mended_tree(alloc, places, value)?;
+    Ok(Some(tree))
 }
 
 // The source with its places.
@@ -44,14 +67,17 @@ fn survey_of<'s, 'v>(
             source,
             places: Vec::new(alloc),
             is_sound: false,
+            mended: None,
         });
     };
-    let places = places_of(alloc, &source.uri, value, draft.detect(value))?;
+    let places = places_of(alloc, &source.uri, value, draft)?;
     let any = is_any_faulty(alloc, places.as_slice())?;
+    let mended = mended_for(alloc, places.as_slice(), value, !any)?;
     Ok(Survey {
         source,
         places,
         is_sound: !any,
+        mended,
     })
 }
 
@@ -130,10 +156,11 @@ fn with_document<'v>(
 {
     let noted = visits_below(alloc, survey.places.as_slice())?;
     let uri = survey.source.uri.clone()?;
+    let draft = read_draft(alloc, draft, value)?;
     let document = Document {
         uri,
         contents: Contents::Borrowed(value),
-        draft: draft.detect(value),
+        draft,
     };
     match walked.append_listed(alloc, document, noted.as_slice()) {
         Ok(walked) => Ok(walked),
@@ -205,6 +232,87 @@ pub(crate) fn index_of<'v>(
     let walked = with_sources(alloc, draft, Walked::new(alloc), surveys)?;
     let walked = with_sources(alloc, draft, walked, others)?;
     walked.into_index(alloc)
+}
+
+// The index of one source alone, where it is sound.
+fn own_index<'v>(
+    alloc: Global,
+    draft: Draft,
+    survey: &Survey<'_, 'v>,
+) -> Result<Index<'v>, AllocError>
+    requires survey { seen_survey survey.now ≡ survey_in draft (source_of survey.now.source.now) }
+    requires are_there { PlacesAreThere survey.now }
+    ensures { IfOk result (λ index. index ≡ sound_in draft (seen_survey survey.now)) }
+{
+    let walked = with_source(alloc, draft, Walked::new(alloc), survey)?;
+    walked.into_index(alloc)
+}
+
+// Adds an index after the others.
+fn push_index<'v>(list: &mut Vec<Index<'v>>, index: Index<'v>) -> Result<(), AllocError>
+    ensures { OnOk result (list.new.items ≡ list.old.items ++ index.entry ∷ []) }
+{
+    list.push(index)?;
+    Ok(())
+}
+
+/// The index of each source alone. No value is copied.
+pub(crate) fn own_indexes<'v>(
+    alloc: Global,
+    draft: Draft,
+    surveys: &[Survey<'_, 'v>],
+) -> Result<Vec<Index<'v>>, AllocError>
+    requires surveys { AreSurveys draft (map seen_survey surveys.now) }
+    requires are_there { AllByRecursion PlacesAreThere surveys.now }
+    ensures value { IfOk result
+        (λ list. list.items ≡ map (sound_in draft) (map seen_survey surveys.now)) }
+{
+    let mut list = Vec::new(alloc);
+    for survey in surveys {
+        let index = own_index(alloc, draft, survey)?;
+        push_index(&mut list, index)?;
+    }
+    Ok(list)
+}
+
+// A source as it is read.
+fn read_source<'m, 'v: 'm>(survey: &'m Survey<'_, 'v>) -> Result<Source<'m>, AllocError>
+    ensures { IfOk result (λ s. source_of s ≡ read_of (seen_survey survey.now)) }
+{
+    let uri = survey.source.uri.clone()?;
+    let value = match &survey.mended {
+        Some(value) => Some(value),
+        None => survey.source.value,
+    };
+    Ok(Source { uri, value })
+}
+
+/// Sources as they are read. Their values are lent, and their URIs copied.
+pub(crate) fn read_sources<'m, 'v: 'm>(
+    alloc: Global,
+    surveys: &'m [Survey<'_, 'v>],
+) -> Result<Vec<Source<'m>>, AllocError>
+    ensures value { IfOk result
+        (λ list. map source_of list.items ≡ map read_of (map seen_survey surveys.now)) }
+{
+    let mut list = Vec::with_capacity(alloc, surveys.len())?;
+    for survey in surveys {
+        let source = read_source(survey)?;
+        list.push(source)?;
+    }
+    Ok(list)
+}
+
+/// Whether one of the sources is read with another tree than its own.
+pub(crate) fn is_any_mended(surveys: &[Survey<'_, '_>]) -> bool
+    ensures value { result ≡ list_any has_mended (map seen_survey surveys.now) }
+{
+    let mut any = false;
+    for survey in surveys {
+        let mended = survey.mended.is_some();
+        any = any || mended;
+    }
+    any
 }
 
 // Adds places after others, with the number of their source.

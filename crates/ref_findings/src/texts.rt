@@ -1,10 +1,11 @@
 //! Which texts a place may have that findings are about.
-ghost use Rattle.std.specs.Prelude.{◌≡◌, ◌<◌, ℕ, List, true, false, None, [], ◌∷◌, codes, slice_index};
+ghost use Rattle.std.specs.Prelude.{◌≡◌, ◌<◌, ℕ, List, true, false, None, is_some, [], ◌∷◌, codes, slice_index};
 ghost use Rattle.serde_json.specs.View.{view};
+ghost use Rattle.serde_json.specs.Find.{get};
 ghost use Rattle.ref_draft.specs.Keywords.{id_keyword};
 ghost use Rattle.ref_draft.specs.Schema.{text_under as text_in, identifier};
 ghost use Rattle.ref_draft.specs.Anchors.{anchors as anchors_of};
-ghost use Rattle.ref_findings.specs.inner.Plain.{AreAmong};
+ghost use Rattle.ref_findings.specs.inner.Plain.{AreAmong, HasNoDynamic};
 
 use crate::finding::text_under;
 use ref_draft::{AnchorIter, Draft, ResourceRef};
@@ -17,6 +18,7 @@ pub(crate) struct Texts {
     pub reference: bool,
     pub schema: bool,
     pub anchor: bool,
+    pub dynamic: bool,
 }
 
 impl Texts {
@@ -26,6 +28,7 @@ impl Texts {
         reference: false,
         schema: false,
         anchor: false,
+        dynamic: false,
     };
 
     /// Whether there is none, as of most places.
@@ -34,8 +37,12 @@ impl Texts {
         ensures schema { result ≡ true → self.schema ≡ false }
         ensures id { result ≡ true → self.id ≡ false }
         ensures anchor { result ≡ true → self.anchor ≡ false }
+        ensures dynamic { result ≡ true → self.dynamic ≡ false }
     {
         if self.reference || self.schema {
+            return false;
+        }
+        if self.dynamic {
             return false;
         }
         !self.id && !self.anchor
@@ -50,6 +57,23 @@ fn has_text(value: &Value, keyword: &str) -> bool
         Some(_) => true,
         None => false,
     }
+}
+
+// Whether a value has a member.
+fn has_member(value: &Value, keyword: &str) -> bool
+    ensures { result ≡ is_some (get keyword.now (view value.now)) }
+{
+    value.get(keyword).is_some()
+}
+
+// Whether it may have a dynamic reference.
+fn has_dynamic(value: &Value) -> bool
+    ensures { result ≡ false → HasNoDynamic (view value.now) }
+{
+    if has_member(value, "$dynamicRef") {
+        return true;
+    }
+    has_member(value, "$recursiveRef")
 }
 
 // Whether it has an identifier.
@@ -85,7 +109,7 @@ fn is_after_dollar(text: &str) -> bool
 // Whether no key of a value begins with `$`, as the first one of an object shows: keys are in byte order. Of an empty
 // object it isn't known.
 fn lacks_dollar(value: &Value) -> bool
-    ensures { result ≡ true → (key : List ℕ) → text_in (36 ∷ key) (view value.now) ≡ None }
+    ensures { result ≡ true → (key : List ℕ) → is_some (get (36 ∷ key) (view value.now)) ≡ false }
 {
     let Some(members) = value.as_object() else {
         return true;
@@ -115,8 +139,9 @@ pub(crate) fn texts_of(value: &Value, draft: Draft) -> Texts
     }
     Texts {
         id: has_id(value, draft),
-        reference: has_text(value, "$ref"),
+        reference: has_member(value, "$ref"),
         schema: has_text(value, "$schema"),
         anchor: has_anchor(value, draft),
+        dynamic: has_dynamic(value),
     }
 }

@@ -7,11 +7,13 @@ ghost use Rattle.ref_draft.specs.Views.{segment_parts, walked_child};
 ghost use Rattle.std.specs.List.{AllByRecursion};
 ghost use Rattle.ref_definitions.specs.Places.{child_place, root};
 ghost use Rattle.ref_index.specs.Listed.{ChildrenAreAt};
-ghost use Rattle.ref_findings.specs.Places.{children_near, places_near};
+ghost use Rattle.ref_findings.specs.Places.{children_near, document, places_near, read_children, read_draft};
+ghost use Rattle.ref_findings.specs.inner.Seen.{draft_by, read_again};
 ghost use Rattle.ref_findings.specs.declared.place.Place.{Place};
 ghost use Rattle.ref_findings.specs.inner.Seen.{place_of, IsKeywordBelow};
 
 use crate::base::nearest_base;
+use crate::fault::is_schema_refused;
 use crate::place::Place;
 use ref_draft::{Child, Draft};
 use ref_index::shared;
@@ -79,12 +81,15 @@ fn push_child<'v>(
     path: &JsonPointerNode<'v>,
     last: &mut Option<Keyword<'v>>,
     child: Child<'v>,
+    parent: Draft,
     base: &Rc<Uri>,
 ) -> Result<(), AllocError>
     requires { IfSome last.old (IsKeywordBelow path.now) }
     ensures added { OnOk result
         ((p : Place) × (places.new.items ≡ places.old.items ++ p ∷ [])
-        × (place_of p ≡ child_place path.now base.now.value (walked_child child.entry))) }
+        × (place_of p
+        ≡ child_place path.now base.now.value
+        (read_again parent (walked_child child.entry)))) }
     ensures last { IfSome last.new (IsKeywordBelow path.now) }
 {
     let Child {
@@ -93,6 +98,7 @@ fn push_child<'v>(
         value,
         draft,
     } = child;
+    let draft = read_as(alloc, parent, value, draft)?;
     let outer = base.clone()?;
     let keyword = keyword_path(alloc, path, last, keyword)?;
     let path = path_within(alloc, keyword, segment)?;
@@ -112,14 +118,13 @@ fn push_children<'v>(
     ensures added { OnOk result
         ((more : List Place) × (places.new.items ≡ places.old.items ++ more)
         × (map place_of more
-        ≡ map (child_place path.now base.now.value)
-        (walked_children draft (view value.now)))) }
+        ≡ map (child_place path.now base.now.value) (read_children draft (view value.now)))) }
     ensures are_there { OnOk result
         (AllAreThere (view value.now) (walked_children draft (view value.now))) }
 {
     let mut last = None;
     for child in draft.walk_children(alloc, value)? {
-        push_child(alloc, places, path, &mut last, child, base)?;
+        push_child(alloc, places, path, &mut last, child, draft, base)?;
     }
     Ok(())
 }
@@ -145,6 +150,31 @@ fn push_below<'v>(
     push_children(alloc, places, &path, value, draft, &base)
 }
 
+// The draft of a value in a schema of another draft, by the one that is detected on it.
+fn read_as(
+    alloc: Global,
+    parent: Draft,
+    value: &Value,
+    detected: Draft,
+) -> Result<Draft, AllocError>
+    ensures { IfOk result (λ draft. draft ≡ draft_by parent detected (view value.now)) }
+{
+    if detected != Draft::Unknown {
+        return Ok(detected);
+    }
+    if is_schema_refused(alloc, value)? {
+        return Ok(parent);
+    }
+    Ok(detected)
+}
+
+/// The draft of a root, by that of roots that name none.
+pub(crate) fn read_draft(alloc: Global, draft: Draft, value: &Value) -> Result<Draft, AllocError>
+    ensures value { IfOk result (λ d. d ≡ read_draft draft (view value.now)) }
+{
+    read_as(alloc, draft, value, draft.detect(value))
+}
+
 // The root of a source.
 fn root_of<'v>(
     alloc: Global,
@@ -160,8 +190,8 @@ fn root_of<'v>(
     Ok(Place::new(JsonPointerNode::new(), value, draft, outer))
 }
 
-/// The places of a source: the root, then its children by the keywords that hold subschemas, and so on level by level. Each is
-/// visited once; keys are lent, and paths and URIs shared.
+/// The places of a source, where a draft is that of a root that names none: the root, then its children by the keywords that
+/// hold subschemas, and so on level by level. Each is visited once; keys are lent, and paths and URIs shared.
 pub(crate) fn places_of<'v>(
     alloc: Global,
     uri: &Uri,
@@ -170,10 +200,11 @@ pub(crate) fn places_of<'v>(
 ) -> Result<Vec<Place<'v>>, AllocError>
     ensures value { IfOk result
         (λ places. map place_of places.items
-        ≡ places_near (record { uri = uri.now; tree = view value.now; draft = draft })) }
+        ≡ places_near (document draft uri.now (view value.now))) }
     ensures are_there { IfOk result
         (λ places. AllByRecursion ChildrenAreAt (map place_of places.items)) }
 {
+    let draft = read_draft(alloc, draft, value)?;
     let root = root_of(alloc, uri, value, draft)?;
     let mut places = Vec::new(alloc);
     push(&mut places, root)?;

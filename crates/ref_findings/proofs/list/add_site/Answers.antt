@@ -1,11 +1,11 @@
 use Rattle.std.proofs.Common.{◌≡◌, true, ◌++◌, OnOk, subst, sym, rules}
 use Rattle.std.specs.List.{AllZip}
-use Rattle.ref_findings.specs.Findings.{source_findings, identifier_findings, reference_findings, schema_findings, anchor_findings}
+use Rattle.ref_findings.specs.Findings.{source_findings, identifier_findings, reference_findings, dynamic_findings, schema_findings, anchor_findings}
 use Rattle.ref_findings.specs.Entries.{IsFindingOf}
 use Rattle.ref_findings.specs.inner.Seen.{site_of, known_in}
 use Rattle.serde_json.specs.View.{view}
 use Rattle.ref_findings.proofs.Placing.{plain_findings}
-use Rattle.ref_findings.proofs.Zips.{five}
+use Rattle.ref_findings.proofs.Zips.{six}
 use Rattle.ref_findings.proofs.list.add_site.Goals as goal
 
 pub returns-then-is_plain : goal.returns-then-is_plain
@@ -25,11 +25,13 @@ returns c = λ fs zip.
     let one = source_findings k n s in
     let two = identifier_findings k n s in
     let three = reference_findings k s in
-    let four = schema_findings k s in
+    let four = dynamic_findings k s in
+    let five = schema_findings k s in
     let last = anchor_findings k n s in
-    subst (λ l. OnOk c.add_anchors.result (AllZip IsFindingOf c.add_anchors.new.list.items l)) (five fs one two three four last)
-    (c.add_anchors.ensures ((((fs ++ one) ++ two) ++ three) ++ four)
-    (c.in_ok-add_schema.ensures (((fs ++ one) ++ two) ++ three)
+    subst (λ l. OnOk c.add_anchors.result (AllZip IsFindingOf c.add_anchors.new.list.items l)) (six fs one two three four five last)
+    (c.add_anchors.ensures (((((fs ++ one) ++ two) ++ three) ++ four) ++ five)
+    (c.in_ok-add_schema.ensures ((((fs ++ one) ++ two) ++ three) ++ four)
+    (c.in_ok-add_dynamic.ensures (((fs ++ one) ++ two) ++ three)
     (c.in_ok-add_reference.ensures ((fs ++ one) ++ two)
     (c.in_ok-add_identifier.ensures (fs ++ one)
-    (c.in_ok-add_source_uri.ensures fs zip)))))
+    (c.in_ok-add_source_uri.ensures fs zip))))))

@@ -1,45 +1,33 @@
-use Rattle.std.proofs.Common.{◌≡◌, ◌∙◌, ◌∷◌, ◌++◌, [], map, flat_map, filter, length, ap, sym, subst, rules, IfOk}
-use Rattle.std.specs.List.{AllZip, enumerate_from}
-use Rattle.std.proofs.lemmas.Simd.{map-map}
-use Rattle.ref_findings.specs.Sources.{world_of, unsound_sources}
-use Rattle.ref_findings.specs.Bearers.{numbered_sites, sites, uris_borne, names_borne}
-use Rattle.ref_findings.specs.Findings.{Known, unread_sources, place_findings, has_reference}
+use Rattle.std.proofs.Common.{◌≡◌, ◌∙◌, ◌++◌, ◌||◌, [], false, map, flat_map, ap, subst, rules, IfOk}
+use Rattle.std.specs.Prelude.{if◌then◌else◌}
+use Rattle.std.specs.List.{AllZip, list_any}
+use Rattle.ref_findings.specs.Sources.{sound_document}
+use Rattle.ref_findings.specs.Findings.{Known, sources_findings, place_findings}
 use Rattle.ref_findings.specs.Entries.{source_of, IsFindingOf}
-use Rattle.ref_findings.specs.inner.Seen.{Survey, seen_survey, site_of, sound_in, unsound_in, AreSurveys, known_among}
-use Rattle.ref_findings.proofs.Knowing.{known_with, world_is, unsound_is, sites_are, known_is, surveys_are}
+use Rattle.ref_findings.specs.inner.Seen.{seen_survey, site_of, sound_in, read_of, has_mended, known_among}
+use Rattle.ref_findings.proofs.Knowing.{plain_documents, plain_own}
 use Rattle.ref_findings.proofs.list.surveyed.Goals as goal
-
-pub index_of-requires-clause-surveys : goal.index_of-requires-clause-surveys
-index_of-requires-clause-surveys c =
-    subst (AreSurveys c.args.draft) (sym c.requires.surveys) (surveys_are c.args.draft (map source_of c.args.sources.now))
-
-pub index_of-requires-clause-others : goal.index_of-requires-clause-others
-index_of-requires-clause-others c =
-    subst (AreSurveys c.args.draft) (sym c.requires.others) (surveys_are c.args.draft (map source_of c.args.held.now))
 
 pub returns : goal.returns
 returns c =
     let draft = c.args.draft in
+    let b = c.args.bearers.now in
     let ss = map source_of c.args.sources.now in
-    let hs = map source_of c.args.held.now in
+    let ls = map site_of b.sites.items in
     let ts = map seen_survey c.args.surveys.now in
     let us = map seen_survey c.args.others.now in
-    let ls = map site_of c.in_ok-sites.sites.items in
-    let index = c.in_ok-index.index in
-    let bad = c.in_ok-unsound.unsound in
-    let layer : index ≡ flat_map (sound_in draft) ts ++ flat_map (sound_in draft) us = search rules in
-    let entries : bad ≡ flat_map unsound_in ts ++ flat_map unsound_in us = search rules in
-    let placed : ls ≡ flat_map numbered_sites (enumerate_from 0 (map (λ s. (seen_survey s).places) c.args.surveys.now)) = search rules in
-    let at_sites : ls ≡ sites draft ss = sites_are draft ss ts ls c.requires.surveys (placed ∙ ap (λ l. flat_map numbered_sites (enumerate_from 0 l)) (sym (map-map (λ (t : Survey). t.places) seen_survey c.args.surveys.now))) in
-    let same = known_is (index ∷ []) bad ls (world_of draft ss hs) (unsound_sources draft ss hs) (sites draft ss)
-    (world_is draft ss hs ts us index c.requires.surveys c.requires.others layer)
-    (unsound_is draft ss hs ts us bad c.requires.surveys c.requires.others entries) at_sites in
-    let sliced : c.as_slice.result.now ≡ c.in_ok-sites.sites.items = search rules in
-    let found : IfOk c.reported.result (λ report. AllZip IsFindingOf report.findings.items (unread_sources ss ++ place_findings (known_with (index ∷ []) bad ls (uris_borne ls) (names_borne ls)) ls)) =
-    subst (λ items. IfOk c.reported.result (λ report. AllZip IsFindingOf report.findings.items (unread_sources ss ++ place_findings (known_among index bad (map site_of items)) (map site_of items)))) sliced c.reported.ensures.findings in
-    let counted : IfOk c.reported.result (λ report. report.references ≡ length (filter has_reference ls)) =
-    subst (λ items. IfOk c.reported.result (λ report. report.references ≡ length (filter has_reference (map site_of items)))) sliced c.reported.ensures.references in
+    let rs = map read_of ts in
+    let hs = map read_of us in
+    let i = c.in_ok-indexes.indexes in
+    let first : list_any has_mended ts ≡ false = search rules in
+    let second : list_any has_mended us ≡ false = search rules in
+    let all : i.all ≡ flat_map (sound_document draft) rs ++ flat_map (sound_document draft) hs =
+    c.in_ok-indexes.ensures.all ∙ ap (λ l. l ++ flat_map (sound_in draft) us) (plain_documents draft ts c.requires.surveys first)
+    ∙ ap (λ l. flat_map (sound_document draft) rs ++ l) (plain_documents draft us c.requires.others second) in
+    let own : i.own.items ≡ (if b.uris.is_any_twice then map (sound_document draft) rs else []) =
+    c.in_ok-indexes.ensures.own ∙ ap (λ l. if b.uris.is_any_twice then l else []) (plain_own draft ts c.requires.surveys first) in
+    let known = ap (λ l. known_among l i.own.items b.unread ls) all ∙ ap (λ o. known_among (flat_map (sound_document draft) rs ++ flat_map (sound_document draft) hs) o b.unread ls) own in
     record {
-      findings = subst (λ (k : Known). IfOk c.reported.result (λ report. AllZip IsFindingOf report.findings.items (unread_sources ss ++ place_findings k k.sites))) same found;
-      references = subst (λ l. IfOk c.reported.result (λ report. report.references ≡ length (filter has_reference l))) at_sites counted;
+      findings = subst (λ (k : Known). IfOk c.reported.result (λ report. AllZip IsFindingOf report.findings.items (sources_findings ss ++ place_findings k ls))) known c.reported.ensures.findings;
+      references = c.reported.ensures.references;
     }

@@ -1,6 +1,6 @@
 use Rattle.std.proofs.Common.{◌≡◌, true, Some, ap, sym, ◌∙◌, rules}
 use Rattle.serde_json.specs.View.{view}
-use Rattle.ref_definitions.specs.World.{document}
+use Rattle.ref_findings.specs.Places.{document}
 use Rattle.ref_findings.specs.Entries.{source_of}
 use Rattle.ref_findings.specs.inner.Seen.{Survey}
 use Rattle.ref_findings.proofs.Sound.{faultless_more, sound_places}

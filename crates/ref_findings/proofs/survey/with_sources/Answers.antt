@@ -1,12 +1,9 @@
-use Rattle.std.proofs.Common.{◌≡◌, List, [], ◌∷◌, map, refl, ap, sym, subst}
+use Rattle.std.proofs.Common.{◌≡◌, sym, subst}
 use Rattle.std.specs.List.{AllByRecursion}
 use Rattle.ref_index.proofs.Noting.{all_at}
 use Rattle.ref_findings.specs.inner.Seen.{Survey, PlacesAreThere, seen_survey, survey_in}
+use Rattle.ref_findings.proofs.Surveys.{map_same}
 use Rattle.ref_findings.proofs.survey.with_sources.Goals as goal
-
-map_same : {A : Type 0} (xs : List A) → map (λ x. x) xs ≡ xs
-map_same [] = refl
-map_same (x ∷ xs) = ap (λ l. x ∷ l) (map_same xs)
 
 pub with_source-requires-clause-survey : goal.with_source-requires-clause-survey
 with_source-requires-clause-survey c =

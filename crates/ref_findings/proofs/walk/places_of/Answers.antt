@@ -3,9 +3,9 @@ use Rattle.std.specs.List.{AllByRecursion}
 use Rattle.std.proofs.lemmas.Option.{slice_get-get_or, slice_get-map}
 use Rattle.std.proofs.lemmas.List.{length-map, map-append, take_all}
 use Rattle.serde_json.specs.View.{view}
-use Rattle.ref_definitions.specs.World.{Document}
+use Rattle.ref_definitions.specs.Places.{root}
 use Rattle.ref_index.specs.Listed.{ChildrenAreAt}
-use Rattle.ref_findings.specs.Places.{places_near}
+use Rattle.ref_findings.specs.Places.{document, places_near}
 use Rattle.ref_findings.specs.inner.Queue.{IsAt}
 use Rattle.ref_findings.specs.inner.Seen.{place_of}
 use Rattle.ref_findings.proofs.Noted.{all_visited}
@@ -14,22 +14,22 @@ use Rattle.ref_findings.proofs.walk.places_of.Goals as goal
 
 pub loop-head-init : goal.loop-head-init
 loop-head-init c =
-    let d : Document = record { uri = c.args.uri.now; tree = view c.args.value.now; draft = c.args.draft } in (
+    let d = document c.args.draft c.args.uri.now (view c.args.value.now) in (
       begins d (map place_of c.push.new.places.items)
-          (ap (map place_of) (c.in_ok-push.ensures ∙ ap (λ l. l ++ c.in_ok-root.root ∷ []) c.new-places.ensures.items) ∙ ap (λ p. p ∷ []) c.in_ok-root.ensures),
+          (ap (map place_of) (c.in_ok-push.ensures ∙ ap (λ l. l ++ c.in_ok-root.root ∷ []) c.new-places.ensures.items) ∙ ap (λ p. p ∷ []) (c.in_ok-root.ensures ∙ ap (λ draft. root (record { uri = c.args.uri.now; tree = view c.args.value.now; draft = draft })) c.in_ok-draft.ensures.value)),
       tt,
     )
 
 pub loop-head-smaller : goal.loop-head-smaller
 loop-head-smaller c =
-    let d : Document = record { uri = c.args.uri.now; tree = view c.args.value.now; draft = c.args.draft } in
+    let d = document c.args.draft c.args.uri.now (view c.args.value.now) in
     let queue = c.loop-head.places.items in
     let more : c.loop-head.head < length (places_near d) = left_in d (map place_of queue) c.loop-head.head (omega (arith, length-map queue place_of)) c.loop-head.invariant.0 in
     omega (arith, more)
 
 pub loop-head-preserved : goal.loop-head-preserved
 loop-head-preserved c =
-    let d : Document = record { uri = c.args.uri.now; tree = view c.args.value.now; draft = c.args.draft } in
+    let d = document c.args.draft c.args.uri.now (view c.args.value.now) in
     let queue = c.loop-head.places.items in
     let head = c.loop-head.head in
     let within : head < length queue = omega arith in
@@ -45,7 +45,7 @@ loop-head-preserved c =
 
 pub returns-clause-value : goal.returns-clause-value
 returns-clause-value c =
-    let d : Document = record { uri = c.args.uri.now; tree = view c.args.value.now; draft = c.args.draft } in
+    let d = document c.args.draft c.args.uri.now (view c.args.value.now) in
     let queue = c.loop-head.places.items in
     ap (map place_of) c.shrink_to_fit.ensures.items ∙ ends d (map place_of queue) c.loop-head.head (omega (arith, length-map queue place_of)) c.loop-head.invariant.0
 

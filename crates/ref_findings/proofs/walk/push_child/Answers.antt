@@ -3,6 +3,7 @@ use Rattle.serde_json.specs.View.{view}
 use Rattle.ref_paths.specs.Path.{Key}
 use Rattle.ref_draft.specs.Views.{segment_parts, walked_child}
 use Rattle.ref_index.proofs.Listing.{on_ok}
+use Rattle.ref_findings.specs.inner.Seen.{read_again}
 use Rattle.ref_findings.proofs.Placing.{place_is}
 use Rattle.ref_findings.proofs.walk.push_child.Goals as goal
 
@@ -17,7 +18,7 @@ returns-clause-added c =
     (λ grown. (
       p,
       grown,
-      place_is p c.in_ok-path.path (view c.args.child.value.now) c.args.child.draft c.in_ok-outer.outer.value above c.args.base.now.value (walked_child c.args.child) c.new-place.ensures.value whole
-          refl refl c.in_ok-outer.ensures.cases,
+      place_is p c.in_ok-path.path (view c.args.child.value.now) c.in_ok-draft.draft c.in_ok-outer.outer.value above c.args.base.now.value (read_again c.args.parent (walked_child c.args.child)) c.new-place.ensures.value whole
+          refl c.in_ok-draft.ensures c.in_ok-outer.ensures.cases,
     ))
     c.push.ensures

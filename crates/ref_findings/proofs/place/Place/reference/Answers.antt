@@ -1,7 +1,11 @@
-use Rattle.std.proofs.Common.{◌≡◌, false, sym, rules}
+use Rattle.std.proofs.Common.{◌≡◌, false, codes, ap, sym, rules}
+use Rattle.std.specs.Prelude.{option_and_then}
+use Rattle.serde_json.specs.Find.{get, as_str}
+use Rattle.serde_json.specs.View.{view}
+use Rattle.ref_findings.proofs.Placing.{none_of}
 use Rattle.ref_findings.proofs.place.Place.reference.Goals as goal
 
 pub returns-then-not-self : goal.returns-then-not-self
 returns-then-not-self c =
     let lacks : c.args.self.now.texts.reference ≡ false = search rules in
-    record { value = sym (c.args.self.now.among.0 lacks) }
+    record { value = sym (ap (option_and_then as_str) (none_of (get (codes "$ref") (view c.args.self.now.value.now)) (c.args.self.now.among.0 lacks))) }
