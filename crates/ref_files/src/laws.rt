@@ -1,0 +1,13 @@
+//! What holds of the definitions in `specs/`. Each function is empty: its contract states the law.
+ghost use Rattle.std.specs.Prelude.{◌≡◌, ◌==◌, ℕ, List, ◌∷◌, All};
+ghost use Rattle.std.specs.List.{join_with_byte, slice_split};
+ghost use Rattle.ref_files.specs.Plain.{slash, IsPlain, path_in, path_of};
+
+/// A path of names is below its folder: it is what the names with a slash between each two mean in the folder, and cut at
+/// its slashes this gives exactly the names, none of which leads up.
+pub fn paths_of_names_stay_below()
+    ensures path { (folder name : List ℕ) (names : List (List ℕ)) → All IsPlain (name ∷ names)
+        → path_of folder (name ∷ names) ≡ path_in folder (join_with_byte slash (name ∷ names)) }
+    ensures names { (name : List ℕ) (names : List (List ℕ)) → All IsPlain (name ∷ names)
+        → slice_split (λ b. b == slash) (join_with_byte slash (name ∷ names)) ≡ name ∷ names }
+{}
