@@ -375,7 +375,8 @@ fn surveyed<'v>(
 /// reference to a URI of it is not listed. Below a place whose identifier means no URI the base stays that of the place
 /// around it.
 ///
-/// Fails only if out of memory. Each place is visited twice, each reference looked up once; no value is copied.
+/// Fails only if out of memory. The documents are walked once; what is listed of their places is gathered in a fixed number
+/// of passes over them, with look-ups in tables, and each reference is looked up once; no value is copied.
 pub fn report<'v>(
     alloc: Global,
     draft: Draft,
