@@ -8,6 +8,7 @@
 
 mod chunk;
 mod error;
+pub mod examples;
 pub mod laws;
 mod line;
 mod read;
