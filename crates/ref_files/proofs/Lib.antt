@@ -5,3 +5,4 @@ pub mod Names
 pub mod After
 pub mod OnLiterals
 pub mod StaysBelow
+pub mod LeadsBack
