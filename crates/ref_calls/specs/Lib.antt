@@ -3,3 +3,4 @@ pub mod Objects
 pub mod Errors
 pub mod Calls
 pub mod Given
+pub mod Rows

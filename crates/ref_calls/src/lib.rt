@@ -7,6 +7,7 @@
 pub mod answer;
 pub mod call;
 pub mod document;
+pub mod examples;
 pub mod fault;
 pub mod field;
 pub mod members;

@@ -4,6 +4,8 @@
 //! a path of names stays below the folder that it begins at, links aside.
 #![tactic(auto)]
 
+pub mod examples;
+pub mod laws;
 mod name;
 mod prefix;
 mod uri;

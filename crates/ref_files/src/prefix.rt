@@ -1,20 +1,39 @@
 //! What a URI means below a prefix.
-ghost use Rattle.std.specs.Prelude.{◌≡◌, map, string_bytes, IfOk, OnOk};
+ghost use Rattle.std.specs.Prelude.{◌≡◌, map, option_map, string_bytes, IfOk, OnOk};
+ghost use Rattle.std.specs.List.{list_any};
 ghost use Rattle.ref_files.specs.Plain.{path_in, path_of};
+ghost use Rattle.ref_files.specs.Meant.{path_after, ends_path, without_slashes};
 
 use crate::name::Name;
 use std::alloc::{AllocError, Global};
 
 /// What follows a prefix in a URI, where the URI begins so and the prefix ends at a slash: the prefix `http://a/b`,
-/// with a slash at its end or without, has `http://a/b/c` below it and not `http://a/bc`. Nothing where it has a query
-/// or a fragment.
-pub fn below_prefix<'u>(prefix: &str, uri: &'u str) -> Option<&'u str> {
-    let rest = uri.strip_prefix(prefix.trim_end_matches('/'))?;
+/// with a slash at its end or without, has `http://a/b/c` below it and not `http://a/bc`. Nothing where that has a query
+/// or a fragment (RFC 3986, 3).
+///
+/// Takes no memory. One pass over the URI.
+pub fn below_prefix<'u>(prefix: &str, uri: &'u str) -> Option<&'u str>
+    ensures value { option_map (λ path. path.now) result ≡ path_after prefix.now uri.now }
+{
+    let rest = uri.strip_prefix(without_slashes(prefix))?;
     let path = rest.strip_prefix('/')?;
-    if path.contains('?') || path.contains('#') {
+    if has_query_or_fragment(path.as_bytes()) {
         return None;
     }
     Some(path)
+}
+
+// The text without the slashes at its end.
+pub(crate) fn without_slashes(text: &str) -> &str
+    ensures value { result.now ≡ without_slashes text.now }
+{
+    text.trim_end_matches('/')
+}
+
+fn has_query_or_fragment(text: &[u8]) -> bool
+    ensures value { result ≡ list_any ends_path text.now }
+{
+    text.iter().any(|b| *b == b'?' || *b == b'#')
 }
 
 /// The path of what these names mean from a folder: each is a plain name, so the path is below the folder, links aside.

@@ -1,8 +1,10 @@
 //! The URIs of files.
 ghost use Rattle.std.specs.Prelude.{◌≡◌, ℕ, ◌++◌, not, codes, string_bytes, IfOk, OnOk};
 ghost use Rattle.percent_encoding.specs.AsciiSet.{should_percent_encode};
+ghost use Rattle.ref_files.specs.Meant.{uri_after};
 ghost use Rattle.ref_files.specs.Uris.{is_kept, is_kept_first, path_text, relative_text};
 
+use crate::prefix::without_slashes;
 use percent_encoding::{AsciiSet, CONTROLS, ascii_set, utf8_percent_encode};
 use std::alloc::{AllocError, Global};
 
@@ -53,9 +55,14 @@ pub fn file_uri(alloc: Global, path: &str) -> Result<String, AllocError>
     Ok(uri)
 }
 
-/// The URI of the file at a path below a base, with one slash between them.
-pub fn uri_below(alloc: Global, base: &str, path: &str) -> Result<String, AllocError> {
-    let mut uri = String::from_str(alloc, base.trim_end_matches('/'))?;
+/// The URI of the file at a path below a base, with one slash between them; the path is percent-encoded (RFC 3986,
+/// 3.3).
+///
+/// Out of memory is the one error. One pass over both.
+pub fn uri_below(alloc: Global, base: &str, path: &str) -> Result<String, AllocError>
+    ensures value { IfOk result (λ uri. string_bytes uri ≡ uri_after base.now path.now) }
+{
+    let mut uri = String::from_str(alloc, without_slashes(base))?;
     uri.push('/')?;
     push_path(&mut uri, path)?;
     Ok(uri)

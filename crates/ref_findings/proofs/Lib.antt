@@ -17,3 +17,4 @@ pub mod Drafts
 pub mod Surveys
 pub mod Dynamic
 pub mod Nulls
+pub mod Descriptions

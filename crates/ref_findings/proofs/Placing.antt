@@ -1,5 +1,5 @@
 -- The program's places as the definitions see them.
-use Rattle.std.proofs.Common.{◌≡◌, refl, is_some, ℕ, List, [], ◌++◌, ◌||◌, false, Some, None, ◌&&◌, not, bytes_eq, option_map, flat_map, codes, append-nil, ap, ◌∙◌}
+use Rattle.std.proofs.Common.{◌≡◌, refl, is_some, Option, ℕ, List, [], ◌++◌, ◌||◌, false, Some, None, ◌&&◌, not, bytes_eq, option_map, flat_map, codes, append-nil, ap, ◌∙◌}
 use Rattle.std.specs.Prelude.{option_and_then, if◌then◌else◌}
 use Rattle.std.specs.Option.{option_map_or}
 use Rattle.ref_definitions.specs.Resources.{own_uri}
@@ -69,6 +69,6 @@ plain_findings k number source path value draft outer plain =
     none_after (source_findings k number s) (identifier_findings k number s) (reference_findings k s) (dynamic_findings k s) (schema_findings k s) (anchor_findings k number s)
     (ap (λ id. finding_at s (Some (id_keyword draft)) (option_and_then (λ i. by_base k number p.base) id)) plain.2)
     (ap (λ v. finding_at s (Some (codes "$ref")) (option_and_then (value_problem k s) v)) (none_of (get (codes "$ref") value) plain.0))
-    (no_dynamic k source path value draft outer (plain.4, plain.5))
+    (no_dynamic k source path value draft outer plain.4)
     (ap (λ text. finding_at s (Some (codes "$schema")) (option_and_then (schema_problem k) text)) plain.1)
     (ap (flat_map (anchor_finding k number s)) plain.3)

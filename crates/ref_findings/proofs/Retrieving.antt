@@ -51,8 +51,8 @@ pub grown_by_place : (a b c e d : rust.Wants) (own referred dynamic dialect o r 
     → Grows a d (option_to_list o) (option_to_list r ++ (option_to_list y ++ option_to_list t))
 grown_by_place a b c e d own referred dynamic dialect o r y t first second third fourth is_own is_referred is_dynamic is_dialect =
     let two = grown_twice a b c (option_to_list own) [] [] (option_to_list referred) first second in
-    let rest = grown_twice c e d [] [] (option_to_list dynamic) (option_to_list dialect) third fourth in
-    let all = grown_twice a c d (option_to_list own ++ []) [] (option_to_list referred) (option_to_list dynamic ++ option_to_list dialect) two rest in
+    let rest = grown_twice c e d [] (option_to_list dynamic) [] (option_to_list dialect) third fourth in
+    let all = grown_twice a c d (option_to_list own ++ []) (option_to_list referred) [] (option_to_list dynamic ++ option_to_list dialect) two rest in
     let met : (option_to_list own ++ []) ++ [] ≡ option_to_list o = append-nil (option_to_list own ++ []) ∙ append-nil (option_to_list own) ∙ ap option_to_list is_own in
     subst (λ l. Grows a d l (option_to_list r ++ (option_to_list y ++ option_to_list t))) met
     (subst (λ x. Grows a d ((option_to_list own ++ []) ++ []) (option_to_list x ++ (option_to_list y ++ option_to_list t))) is_referred

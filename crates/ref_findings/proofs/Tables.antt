@@ -33,3 +33,7 @@ copied_some (Some x) p b is copied = is ∙ ap is_some copied
 -- the place with a number that is another one
 pub other_is : (sites : List Site) (number first : ℕ) (s : Site) → (first == number) ≡ false → slice_get sites first ≡ Some s → other_than sites number first ≡ Some s
 other_is sites number first s differ got = ap (λ b. if b then None else slice_get sites first) differ ∙ got
+
+pub copied_map : {X Y : Type 0} (f : X → Y) (o : Option (Bor X)) → option_map (λ x. f x.now) o ≡ option_map f (option_copied o)
+copied_map f None = refl
+copied_map f (Some x) = refl

@@ -24,6 +24,17 @@ finding_on number path keyword text problem =
       problem = problem;
     }
 
+-- a finding on a value that is no text
+abbrev pub finding_without_text : ℕ → List Part → Literal → Problem → Finding
+finding_without_text number path keyword problem =
+    record {
+      source = number;
+      path = path;
+      keyword = Some (codes keyword);
+      text = None;
+      problem = problem;
+    }
+
 -- a finding on a source as a whole
 abbrev pub finding_whole : ℕ → Problem → Finding
 finding_whole number problem =

@@ -1,5 +1,5 @@
 -- The documents that are read, and which of them references are looked up in.
-use Rattle.std.specs.Prelude.{ℕ, Bool, not, ◌&&◌, is_some, if◌then◌else◌, List, [], ◌∷◌, ◌++◌, flat_map, map, Option, option_map}
+use Rattle.std.specs.Prelude.{ℕ, Bool, not, ◌&&◌, is_some, if◌then◌else◌, List, [], ◌∷◌, ◌++◌, flat_map, map, Option, None, option_map}
 use Rattle.std.specs.Option.{option_to_list, option_map_or}
 use Rattle.std.specs.List.{list_any}
 use Rattle.serde_json.specs.Data.{Data}
@@ -32,9 +32,17 @@ is_sound draft s = is_some s.tree && not (list_any is_faulty (places_in draft s)
 abbrev pub sound_document : Draft → Source → List Document
 sound_document draft s = if is_sound draft s then option_to_list (document_in draft s) else []
 
--- a source with `null` in place of each text that means no URI
+-- its tree with `null` in place of each text that means no URI
+abbrev pub tree_mended : Draft → Source → Option Data
+tree_mended draft s = option_map (mended_tree (places_in draft s)) s.tree
+
+-- the tree that is read in place of its own, where it is JSON and isn't sound
+abbrev pub tree_in_place : Draft → Source → Option Data
+tree_in_place draft s = if is_sound draft s then None else tree_mended draft s
+
+-- a source with that tree
 abbrev pub mended : Draft → Source → Source
-mended draft s = record s { tree = option_map (mended_tree (places_in draft s)) s.tree }
+mended draft s = record s { tree = tree_mended draft s }
 
 -- a source as it is read: itself, where it is sound
 abbrev pub read_source : Draft → Source → Source

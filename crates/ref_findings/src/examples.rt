@@ -3,12 +3,12 @@
 
 ghost use Rattle.std.specs.Prelude.{◌≡◌, [], ◌∷◌, codes};
 ghost use Rattle.ref_paths.specs.Path.{Key, Index};
-ghost use Rattle.ref_draft.specs.declared.draft.Draft.TheVariants.{Draft7, Draft202012};
+ghost use Rattle.ref_draft.specs.declared.draft.Draft.TheVariants.{Draft7, Draft201909, Draft202012};
 ghost use Rattle.ref_uri.specs.Targets.{parse_refusal};
 ghost use Rattle.ref_definitions.specs.Fault.{PointerToNowhere, NoSuchAnchor};
 ghost use Rattle.ref_definitions.specs.Rows.{yes, text, empty, one, two, pair};
-ghost use Rattle.ref_findings.specs.Findings.{findings, references, NotJson, InvalidUri, MissingDocument, LeadsNowhere, Unchecked, UnknownDialect, DuplicateIdentifier, DuplicateAnchor};
-ghost use Rattle.ref_findings.specs.Rows.{source, unread_source, finding_on, finding_whole};
+ghost use Rattle.ref_findings.specs.Findings.{findings, references, NotJson, NotChecked, NotAText, RecursiveElsewhere, NamesNothing, InvalidUri, MissingDocument, LeadsNowhere, Unchecked, UnknownDialect, DuplicateIdentifier, DuplicateAnchor};
+ghost use Rattle.ref_findings.specs.Rows.{source, unread_source, finding_on, finding_without_text, finding_whole};
 
 /// What is wrong with references.
 pub fn references()
@@ -53,7 +53,7 @@ pub fn counts()
     ensures of_no_texts { references Draft202012 (source "http://a/r" (one "$ref" empty) ∷ []) ≡ 0 }
 {}
 
-/// What hides nothing: sources that are no JSON or have a fault.
+/// What hides nothing: sources that are no JSON, and texts that mean no URI.
 pub fn sources_that_are_not_sound()
     ensures no_json { findings Draft202012
         (source "http://a/r" (one "$ref" (text "s#/x")) ∷ unread_source "http://a/s" ∷ []) []
@@ -64,7 +64,9 @@ pub fn sources_that_are_not_sound()
         (one "allOf" (pair (one "$ref" (text "a b")) (one "$ref" (text "t"))))
         ∷ [])
         []
-        ≡ finding_on 1 (Key (codes "allOf") ∷ Index 0 ∷ []) "$ref" "a b"
+        ≡ finding_on 0 [] "$ref" "s#/x"
+        (LeadsNowhere (codes "http://a/s") (PointerToNowhere (codes "/x")))
+        ∷ finding_on 1 (Key (codes "allOf") ∷ Index 0 ∷ []) "$ref" "a b"
         (InvalidUri (parse_refusal (codes "a b")))
         ∷ finding_on 1 (Key (codes "allOf") ∷ Index 1 ∷ []) "$ref" "t"
         (MissingDocument (codes "http://a/t"))
@@ -75,6 +77,57 @@ pub fn sources_that_are_not_sound()
         ∷ finding_on 0 (Key (codes "not") ∷ []) "$ref" "t"
         (MissingDocument (codes "http://a/t"))
         ∷ [] }
+{}
+
+/// What is no text, what is no `#`, and dynamic references.
+pub fn other_references()
+    ensures no_text { findings Draft202012 (source "http://a/r" (one "$ref" yes) ∷ []) []
+        ≡ finding_without_text 0 [] "$ref" NotAText ∷ [] }
+    ensures dynamic { findings Draft202012
+        (source "http://a/r" (one "$dynamicRef" (text "#n")) ∷ []) []
+        ≡ finding_on 0 [] "$dynamicRef" "#n"
+        (LeadsNowhere (codes "http://a/r") (NoSuchAnchor (codes "n")))
+        ∷ [] }
+    ensures recursive { findings Draft201909
+        (source "http://a/r" (one "$recursiveRef" (text "#/x")) ∷ []) []
+        ≡ finding_on 0 [] "$recursiveRef" "#/x" RecursiveElsewhere ∷ [] }
+    ensures recursive_root { findings Draft201909
+        (source "http://a/r" (one "$recursiveRef" (text "#")) ∷ []) []
+        ≡ [] }
+    ensures of_another_draft { findings Draft7
+        (source "http://a/r" (two "$dynamicRef" (text "#n") "$recursiveRef" (text "#/x")) ∷ [])
+        []
+        ≡ [] }
+{}
+
+/// Documents that are API descriptions.
+pub fn descriptions()
+    ensures openapi { findings Draft202012 (source "http://a/r" (one "openapi" (text "3.1.0")) ∷ [])
+        []
+        ≡ finding_on 0 [] "openapi" "3.1.0" NotChecked ∷ [] }
+    ensures other { findings Draft202012 (source "http://a/r" (one "openapi" yes) ∷ []) [] ≡ [] }
+{}
+
+/// Two sources with one identifier.
+pub fn one_identifier()
+    ensures own_references { findings Draft202012
+        (source "http://a/r"
+        (two "$id" (text "http://b/x") "allOf" (pair (one "$anchor" (text "n")) (one "$ref" (text "#n"))))
+        ∷ source "http://a/s" (two "$id" (text "http://b/x") "$anchor" (text "m"))
+        ∷ [])
+        []
+        ≡ finding_on 1 [] "$id" "http://b/x" (DuplicateIdentifier (codes "http://b/x") 0 [])
+        ∷ [] }
+    ensures others { findings Draft202012
+        (source "http://a/r" (two "$id" (text "http://b/x") "$anchor" (text "n"))
+        ∷ source "http://a/s" (two "$id" (text "http://b/x") "$anchor" (text "n"))
+        ∷ source "http://a/t" (one "$ref" (text "http://b/x#n"))
+        ∷ [])
+        []
+        ≡ finding_on 1 [] "$id" "http://b/x" (DuplicateIdentifier (codes "http://b/x") 0 [])
+        ∷ [] }
+    ensures pointer { findings Draft7 (source "http://a/r" (one "$id" (text "#/x")) ∷ []) []
+        ≡ finding_on 0 [] "$id" "#/x" NamesNothing ∷ [] }
 {}
 
 /// Names of meta-schemas.

@@ -26,5 +26,5 @@ mod walk;
 
 pub use finding::{Bearer, Finding, Level, Problem, Report};
 pub use gathering::{Held, as_sources, gather};
-pub use list::{findings, report};
+pub use list::{findings, mended, report};
 pub use source::Source;

@@ -6,7 +6,7 @@ ghost use Rattle.ref_draft.specs.Views.{anchor_name};
 ghost use Rattle.ref_findings.specs.Places.{nearest_base};
 ghost use Rattle.ref_findings.specs.Findings as spec;
 ghost use Rattle.ref_findings.specs.Findings.{finding_at, anchor_finding, source_findings, identifier_findings, reference_findings, dynamic_findings, schema_findings, anchor_findings, findings_at, place_findings, no_json, description_keyword, not_checked, description_findings, whole_findings, sources_findings, references_at, references, findings};
-ghost use Rattle.ref_findings.specs.Sources.{unread_uris};
+ghost use Rattle.ref_findings.specs.Sources.{tree_in_place, unread_uris};
 ghost use Rattle.ref_findings.specs.Bearers.{numbered_sites, uris_borne, names_borne};
 ghost use Rattle.ref_resolver.specs.Layered.{world_in};
 ghost use Rattle.ref_findings.specs.inner.Read.{AreBearers, known_read};
@@ -25,7 +25,7 @@ use crate::known::Known;
 use crate::site::Site;
 use crate::source::Source;
 use crate::survey::{
-    Survey, index_of, is_any_mended, own_indexes, read_sources, sites_of, surveys_of,
+    Survey, index_of, is_any_mended, mended_of, own_indexes, read_sources, sites_of, surveys_of,
 };
 use ref_draft::{Anchor, AnchorIter, Draft};
 use ref_index::{Index, segments_of};
@@ -258,10 +258,14 @@ fn no_json<'v>(alloc: Global, number: usize) -> Finding<'v>
 fn description_keyword(value: &Value) -> Option<&'static str>
     ensures { option_map (λ k. k.now) result ≡ description_keyword (view value.now) }
 {
-    for keyword in ["openapi", "swagger", "asyncapi"] {
-        if text_under(value, keyword).is_some() {
-            return Some(keyword);
-        }
+    if text_under(value, "openapi").is_some() {
+        return Some("openapi");
+    }
+    if text_under(value, "swagger").is_some() {
+        return Some("swagger");
+    }
+    if text_under(value, "asyncapi").is_some() {
+        return Some("asyncapi");
     }
     None
 }
@@ -657,6 +661,23 @@ pub fn report<'v>(
         others.as_slice(),
         &bearers,
     )
+}
+
+/// Of each source that is JSON and has an identifier, a `$ref` or a `$schema` that means no URI, the tree that is read in place
+/// of its own: a copy with `null` in place of each such text. `None` for each other source, which is read as it is.
+///
+/// Fails only if out of memory. Each place is visited once.
+pub fn mended(
+    alloc: Global,
+    draft: Draft,
+    sources: &[Source<'_>],
+) -> Result<Vec<Option<Value>>, AllocError>
+    ensures value { IfOk result
+        (λ trees. map (option_map view) trees.items
+        ≡ map (tree_in_place draft) (map source_of sources.now)) }
+{
+    let surveys = surveys_of(alloc, draft, sources)?;
+    mended_of(alloc, surveys)
 }
 
 /// All that is wrong with the references of sources, and what is to be noted, as [`report`] lists it.

@@ -209,13 +209,23 @@ fn below_index<'p>(
     Ok(list)
 }
 
+// Whether a path is empty.
+fn is_empty(path: &[Step]) -> bool
+    ensures { result ≡ is_empty (map step_of path.now) }
+{
+    match path.split_first() {
+        Some(_) => false,
+        None => true,
+    }
+}
+
 // Whether one of the paths is empty.
 fn is_any_empty(paths: &[&[Step]]) -> bool
     ensures { result ≡ list_any is_empty (map lent_path paths.now) }
 {
     let mut any = false;
     for path in paths {
-        let empty = path.is_empty();
+        let empty = is_empty(*path);
         any = any || empty;
     }
     any
@@ -226,9 +236,6 @@ fn is_any_empty(paths: &[&[Step]]) -> bool
 fn with_nulls(alloc: Global, paths: &[&[Step]], value: &Value) -> Result<Value, AllocError>
     ensures { IfOk result (λ v. view v ≡ with_nulls (map lent_path paths.now) (view value.now)) }
 {
-    if paths.is_empty() {
-        return value.clone();
-    }
     if is_any_empty(paths) {
         return Ok(Value::Null);
     }

@@ -163,7 +163,9 @@ impl<'k, 'v> Known<'k, 'v> {
             ≡ option_and_then (slice_get (known_in self.now).sites)
             (first_under uri.now [] (known_in self.now).uris) }
     {
-        let number = self.uris.get(uri, "").0?;
+        let Some(number) = self.uris.get(uri, "").0 else {
+            return None;
+        };
         self.sites.get(*number)
     }
 

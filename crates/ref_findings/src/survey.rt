@@ -303,6 +303,31 @@ pub(crate) fn read_sources<'m, 'v: 'm>(
     Ok(list)
 }
 
+// The tree that is read in place of the own one of a source.
+fn into_mended(survey: Survey<'_, '_>) -> Option<Value>
+    ensures { option_map view result ≡ (seen_survey survey.entry).mended }
+{
+    let Survey { mended, .. } = survey;
+    mended
+}
+
+/// The trees that are read in place of the own ones of sources.
+pub(crate) fn mended_of(
+    alloc: Global,
+    surveys: Vec<Survey<'_, '_>>,
+) -> Result<Vec<Option<Value>>, AllocError>
+    ensures value { IfOk result
+        (λ trees. map (option_map view) trees.items
+        ≡ map (λ s. (seen_survey s).mended) surveys.entry.items) }
+{
+    let mut trees = Vec::new(alloc);
+    for survey in surveys {
+        let tree = into_mended(survey);
+        trees.push(tree)?;
+    }
+    Ok(trees)
+}
+
 /// Whether one of the sources is read with another tree than its own.
 pub(crate) fn is_any_mended(surveys: &[Survey<'_, '_>]) -> bool
     ensures value { result ≡ list_any has_mended (map seen_survey surveys.now) }

@@ -7,7 +7,7 @@ ghost use Rattle.ref_draft.specs.Views.{segment_parts, walked_child};
 ghost use Rattle.std.specs.List.{AllByRecursion};
 ghost use Rattle.ref_definitions.specs.Places.{child_place, root};
 ghost use Rattle.ref_index.specs.Listed.{ChildrenAreAt};
-ghost use Rattle.ref_findings.specs.Places.{children_near, document, places_near, read_children, read_draft};
+ghost use Rattle.ref_findings.specs.Places.{children_near, document, places_near, read_draft};
 ghost use Rattle.ref_findings.specs.inner.Seen.{draft_by, read_again};
 ghost use Rattle.ref_findings.specs.declared.place.Place.{Place};
 ghost use Rattle.ref_findings.specs.inner.Seen.{place_of, IsKeywordBelow};
@@ -118,7 +118,8 @@ fn push_children<'v>(
     ensures added { OnOk result
         ((more : List Place) × (places.new.items ≡ places.old.items ++ more)
         × (map place_of more
-        ≡ map (child_place path.now base.now.value) (read_children draft (view value.now)))) }
+        ≡ map (child_place path.now base.now.value)
+        (map (read_again draft) (walked_children draft (view value.now))))) }
     ensures are_there { OnOk result
         (AllAreThere (view value.now) (walked_children draft (view value.now))) }
 {

@@ -1,5 +1,6 @@
 //! Messages as annotations of GitHub's workflows.
 use crate::message::{Level, Message};
+use crate::plain::{is_hidden, push_escape};
 use std::alloc::AllocError;
 
 /// Adds a message as a workflow command on a line of its own: `::error file=..,line=..,col=..,title=..::..`.
@@ -10,6 +11,10 @@ pub fn push_annotation(out: &mut String, message: &Message<'_>) -> Result<(), Al
     if let Some(suggestion) = &message.suggestion {
         push_suggestion(out, suggestion.as_str())?;
     }
+    if let Some(help) = &message.help {
+        out.push_str(", help: ")?;
+        push_data(out, help.as_str())?;
+    }
     out.push('\n')
 }
 
@@ -17,6 +22,7 @@ pub fn push_annotation(out: &mut String, message: &Message<'_>) -> Result<(), Al
 fn push_place(out: &mut String, message: &Message<'_>) -> Result<(), AllocError> {
     out.push_str(match message.level {
         Level::Error => "::error file=",
+        Level::Warning => "::warning file=",
         Level::Note => "::notice file=",
     })?;
     push_property(out, message.file)?;
@@ -41,28 +47,23 @@ fn push_reference(out: &mut String, message: &Message<'_>) -> Result<(), AllocEr
 
 // The text of a property, in which a colon and a comma have a meaning too.
 fn push_property(out: &mut String, text: &str) -> Result<(), AllocError> {
-    for c in text.chars() {
-        match c {
-            ':' => out.push_str("%3A")?,
-            ',' => out.push_str("%2C")?,
-            _ => push_escaped(out, c)?,
-        }
-    }
-    Ok(())
+    push_encoded(out, text, true)
 }
 
 fn push_data(out: &mut String, text: &str) -> Result<(), AllocError> {
-    for c in text.chars() {
-        push_escaped(out, c)?;
-    }
-    Ok(())
+    push_encoded(out, text, false)
 }
 
-fn push_escaped(out: &mut String, c: char) -> Result<(), AllocError> {
-    match c {
-        '%' => out.push_str("%25"),
-        '\r' => out.push_str("%0D"),
-        '\n' => out.push_str("%0A"),
-        _ => out.push(c),
+// Adds a text without what a log would act upon, and a percent sign as a command has it.
+fn push_encoded(out: &mut String, text: &str, is_property: bool) -> Result<(), AllocError> {
+    for c in text.chars() {
+        match c {
+            '%' => out.push_str("%25")?,
+            ':' if is_property => out.push_str("%3A")?,
+            ',' if is_property => out.push_str("%2C")?,
+            _ if is_hidden(c) => push_escape(out, c)?,
+            _ => out.push(c)?,
+        }
     }
+    Ok(())
 }

@@ -5,6 +5,7 @@
 //! it.
 #![tactic(auto)]
 
+pub mod examples;
 mod locate;
 mod places;
 mod position;

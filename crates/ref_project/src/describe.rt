@@ -1,11 +1,13 @@
 //! Findings as messages.
+use crate::beside::beside;
+use crate::documents::{meant_document, other_uri};
 use crate::given::Given;
 use crate::resources::Resources;
 use crate::rules::code_of;
 use crate::spots::{Spots, first_of, spots_of};
 use crate::suggestions::suggestion;
 use ref_error::Error;
-use ref_findings::{Bearer, Finding, Problem};
+use ref_findings::{Bearer, Finding, Level as Severity, Problem};
 use ref_messages::{Level, Message, Other, Suggester};
 use ref_parts::pointer_of;
 use ref_reading::document::Fault;
@@ -18,6 +20,7 @@ const STEPS: usize = 3_200_000;
 /// The messages on findings, in the order in which they are listed: by file, line and column.
 #[derive(Drop)]
 pub struct Describer<'l, 'd> {
+    rt: &'l HostRuntime,
     alloc: Global,
     given: &'d Given,
     list: &'l [Finding<'d>],
@@ -32,14 +35,16 @@ pub struct Describer<'l, 'd> {
 impl<'l, 'd> Describer<'l, 'd> {
     /// The messages on findings in these files, with those on references that weren't checked where they are asked for.
     pub fn new(
-        alloc: Global,
+        rt: &'l HostRuntime,
         given: &'d Given,
         list: &'l [Finding<'d>],
         is_verbose: bool,
     ) -> Result<Describer<'l, 'd>, AllocError> {
+        let alloc = rt.alloc();
         let spots = spots_of(alloc, given.documents.as_slice(), list)?;
         let order = order_of(alloc, given, &spots, list, is_verbose)?;
         Ok(Describer {
+            rt,
             alloc,
             given,
             list,
@@ -90,6 +95,7 @@ impl<'l, 'd> Describer<'l, 'd> {
             reference: finding.text,
             resolved: None,
             suggestion: None,
+            help: None,
             first: None,
         };
         match self.complete(&mut message, number, finding) {
@@ -111,7 +117,8 @@ impl<'l, 'd> Describer<'l, 'd> {
         message.pointer = pointer_of(self.alloc, finding.path.as_slice())?;
         message.text = self.text(finding)?;
         message.resolved = resolved(self.alloc, finding)?;
-        message.suggestion = self.suggestion(&finding.problem)?;
+        message.suggestion = self.suggestion(finding)?;
+        message.help = self.help(finding)?;
         message.first = self.first(number, &finding.problem)?;
         Ok(())
     }
@@ -120,6 +127,15 @@ impl<'l, 'd> Describer<'l, 'd> {
         let alloc = self.alloc;
         match &finding.problem {
             Problem::NotJson => self.not_json(finding.source),
+            Problem::NotChecked => description_text(alloc, finding.keyword, finding.text),
+            Problem::NotAText => {
+                let keyword = finding.keyword.unwrap_or("");
+                ["The value of ", keyword, " is no text"].join(alloc, "")
+            }
+            Problem::RecursiveElsewhere => {
+                String::from_str(alloc, "A $recursiveRef is to be '#', in Draft 2019-09")
+            }
+            Problem::NamesNothing => nameless_text(alloc, finding.text),
             Problem::InvalidUri(error) => error.to_string(alloc),
             Problem::LeadsNowhere { error, .. } => error.to_string(alloc),
             Problem::MissingDocument { uri } => {
@@ -152,17 +168,24 @@ impl<'l, 'd> Describer<'l, 'd> {
         String::from_str(self.alloc, why)
     }
 
-    fn suggestion(&mut self, problem: &Problem<'_>) -> Result<Option<String>, AllocError> {
-        let Problem::LeadsNowhere { uri, error } = problem else {
-            return Ok(None);
-        };
-        self.suggestion_in(uri, error)
+    fn suggestion(&mut self, finding: &Finding<'_>) -> Result<Option<String>, AllocError> {
+        match &finding.problem {
+            Problem::LeadsNowhere { uri, error } => self.suggestion_in(uri, error),
+            Problem::MissingDocument { uri } => self.suggested_document(finding, uri),
+            _ => Ok(None),
+        }
     }
 
-    fn suggestion_in(&mut self, uri: &Uri, error: &Error) -> Result<Option<String>, AllocError> {
+    // Makes what references may mean, where it isn't made yet.
+    fn prepare(&mut self) -> Result<(), AllocError> {
         if self.resources.is_none() {
             self.resources = Some(Resources::of(self.alloc, self.given)?);
         }
+        Ok(())
+    }
+
+    fn suggestion_in(&mut self, uri: &Uri, error: &Error) -> Result<Option<String>, AllocError> {
+        self.prepare()?;
         let Some(resources) = &self.resources else {
             return Ok(None);
         };
@@ -170,6 +193,38 @@ impl<'l, 'd> Describer<'l, 'd> {
             Some(resource) => suggestion(self.alloc, &mut self.suggester, resource, error),
             None => Ok(None),
         }
+    }
+
+    // What is meant by the text of a finding, where no document has its URI.
+    fn suggested_document(
+        &mut self,
+        finding: &Finding<'_>,
+        uri: &Uri,
+    ) -> Result<Option<String>, AllocError> {
+        self.prepare()?;
+        let (Some(resources), Some(text)) = (&self.resources, finding.text) else {
+            return Ok(None);
+        };
+        meant_document(
+            self.alloc,
+            &mut self.suggester,
+            (self.given, resources),
+            finding.source,
+            (text, uri.as_str()),
+        )
+    }
+
+    // What to do where a document is missing.
+    fn help(&mut self, finding: &Finding<'_>) -> Result<Option<String>, AllocError> {
+        let Problem::MissingDocument { uri } = &finding.problem else {
+            return Ok(None);
+        };
+        if let Some(document) = self.given.documents.get(finding.source) {
+            if let Some(path) = beside(self.rt, document, uri.as_str())? {
+                return Ok(Some(["--with ", path.as_str()].join(self.alloc, "")?));
+            }
+        }
+        other_uri(self.alloc, &mut self.suggester, self.given, uri.as_str())
     }
 
     fn first(&self, number: usize, problem: &Problem<'_>) -> Result<Option<Other>, AllocError> {
@@ -239,11 +294,43 @@ fn order_of(
 }
 
 fn level_of(problem: &Problem<'_>) -> Level {
-    if problem.is_note() {
-        Level::Note
-    } else {
-        Level::Error
+    match problem.level() {
+        Severity::Error => Level::Error,
+        Severity::Warning => Level::Warning,
+        Severity::Note => Level::Note,
     }
+}
+
+// That a file is a description, by the keyword at its root and its version.
+fn description_text(
+    alloc: Global,
+    keyword: Option<&str>,
+    version: Option<&str>,
+) -> Result<String, AllocError> {
+    let name = match keyword {
+        Some("openapi") => "OpenAPI",
+        Some("swagger") => "Swagger",
+        _ => "AsyncAPI",
+    };
+    [
+        "This is a description of ",
+        name,
+        " ",
+        version.unwrap_or(""),
+        ": only its references in JSON Schema places were checked",
+    ]
+    .join(alloc, "")
+}
+
+// That what follows a `#` names nothing.
+fn nameless_text(alloc: Global, text: Option<&str>) -> Result<String, AllocError> {
+    let name = text.unwrap_or("").trim_start_matches('#');
+    [
+        "'#",
+        name,
+        "' names nothing: what begins with a slash is a pointer",
+    ]
+    .join(alloc, "")
 }
 
 fn anchor_text<'x>(

@@ -3,11 +3,14 @@
 //! file refers to which (`graph`). `bundle` is in `ref_bundle_files`, and `serve` in `patchsard`.
 #![tactic(auto)]
 
+mod beside;
 mod describe;
+mod documents;
 mod edges;
 mod follow;
 pub mod given;
 pub mod graph;
+mod left_out;
 pub mod lint;
 mod listing;
 pub mod places;

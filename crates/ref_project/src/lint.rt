@@ -1,10 +1,12 @@
 //! `patchsard lint`.
 use crate::describe::Describer;
 use crate::given::{Given, read_given};
+use crate::left_out::say_broken;
 use crate::rules::RULES;
 use clap::ArgMatches;
 use ref_messages::{Level, Message, push_annotation, push_line, push_sarif, push_text};
-use ref_reading::{Console, Stop};
+use ref_findings::{Finding, Problem};
+use ref_reading::{Console, Stop, say};
 use std::alloc::{AllocError, Global};
 use std::io;
 use std::time::Instant;
@@ -23,11 +25,14 @@ enum Form {
 struct Count {
     references: usize,
     errors: usize,
+    warnings: usize,
     notes: usize,
+    // How many files are no JSON, or are descriptions whose references aren't checked.
+    unread: usize,
 }
 
-/// Lists what is wrong with the references of files. The status is 0 where nothing is, 1 where something is, and 2 where a path
-/// couldn't be read.
+/// Lists what is wrong with the references of files. The status is 0 where nothing is, 1 where something is or nothing was looked
+/// at, and 2 where a path couldn't be read.
 pub fn lint(
     rt: &HostRuntime,
     console: &mut Console<'_>,
@@ -35,8 +40,9 @@ pub fn lint(
 ) -> Result<u8, Stop> {
     let begin = Instant::now(rt);
     let read = read_given(rt, given)?;
+    say_broken(rt, read.documents.get(read.own..).unwrap_or(&[]));
     let is_verbose = given.get_flag("verbose");
-    let listed = list_all(rt.alloc(), console, form_of(given), is_verbose, &read);
+    let listed = list_all(rt, console, form_of(given), is_verbose, &read);
     let has_failed = read.has_failed;
     let files = read.keep();
     let Some(count) = count_of(listed)? else {
@@ -45,7 +51,11 @@ pub fn lint(
     };
     summary(rt, files, count)?;
     print_time(rt, begin);
-    Ok(status_of(count, has_failed))
+    let is_looked_at = files > count.unread;
+    if !is_looked_at && !has_failed {
+        say_nothing(rt, files);
+    }
+    Ok(status_of(count, is_looked_at, has_failed))
 }
 
 // The count, or nothing where standard output is closed.
@@ -57,11 +67,38 @@ fn count_of(count: Result<Count, Stop>) -> Result<Option<Count>, Stop> {
     }
 }
 
-fn status_of(count: Count, has_failed: bool) -> u8 {
+fn status_of(count: Count, is_looked_at: bool, has_failed: bool) -> u8 {
     if has_failed {
         return 2;
     }
-    if count.errors == 0 { 0 } else { 1 }
+    if count.errors == 0 && is_looked_at {
+        0
+    } else {
+        1
+    }
+}
+
+// Says that no reference was looked at, which is no all-clear.
+fn say_nothing(rt: &HostRuntime, files: usize) {
+    if files == 0 {
+        say(
+            rt,
+            "no file was found: a path is a file, or a folder with files whose names end in .json",
+        );
+    } else {
+        say(rt, "nothing was looked at in any of these files");
+    }
+}
+
+// How many sources are no JSON, or descriptions whose references aren't checked.
+fn unread_in(findings: &[Finding<'_>]) -> usize {
+    let mut count: usize = 0;
+    for finding in findings {
+        if matches!(finding.problem, Problem::NotJson | Problem::NotChecked) {
+            count = count.saturating_add(1);
+        }
+    }
+    count
 }
 
 // Ends the last line on standard error with the time since it began.
@@ -76,18 +113,21 @@ fn print_time(rt: &HostRuntime, begin: io::Result<Instant>) {
 
 // Prints the findings of files.
 fn list_all(
-    alloc: Global,
+    rt: &HostRuntime,
     console: &mut Console<'_>,
     form: Form,
     is_verbose: bool,
     given: &Given,
 ) -> Result<Count, Stop> {
+    let alloc = rt.alloc();
     let report = given.report(alloc)?;
-    let mut describer = Describer::new(alloc, given, report.findings.as_slice(), is_verbose)?;
+    let mut describer = Describer::new(rt, given, report.findings.as_slice(), is_verbose)?;
     let mut count = Count {
         references: report.references,
         errors: 0,
+        warnings: 0,
         notes: 0,
+        unread: unread_in(report.findings.as_slice()),
     };
     let printed = print(alloc, console, form, &mut describer, &mut count);
     drop(describer);
@@ -178,6 +218,7 @@ impl Count {
     fn add(&mut self, level: Level) {
         match level {
             Level::Error => self.errors = self.errors.saturating_add(1),
+            Level::Warning => self.warnings = self.warnings.saturating_add(1),
             Level::Note => self.notes = self.notes.saturating_add(1),
         }
     }
@@ -191,6 +232,8 @@ fn summary(rt: &HostRuntime, files: usize, count: Count) -> Result<(), Stop> {
     push_count(&mut line, count.references, "reference")?;
     line.push_str(", ")?;
     push_count(&mut line, count.errors, "error")?;
+    line.push_str(", ")?;
+    push_count(&mut line, count.warnings, "warning")?;
     line.push_str(", ")?;
     push_count(&mut line, count.notes, "note")?;
     let _ = eprint!(rt; "{line}");

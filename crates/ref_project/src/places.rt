@@ -25,19 +25,19 @@ pub fn places(
 
 fn listed(rt: &HostRuntime, console: &mut Console<'_>, given: &Given) -> Result<u8, Stop> {
     let alloc = rt.alloc();
-    let faulty = given.faulty(alloc)?;
-    let world = world_of(rt, given, faulty.as_slice())?;
+    let trees = given.mended(alloc)?;
+    let world = world_of(rt, given, trees.as_slice())?;
     let documents = given.documents.as_slice();
     list_all(alloc, console, documents, &world)?;
-    Ok(report_left_out(rt, documents, faulty.as_slice()))
+    Ok(report_left_out(rt, documents))
 }
 
 // Prints which files were left out, and returns the status.
-fn report_left_out(rt: &HostRuntime, documents: &[Document], faulty: &[bool]) -> u8 {
+fn report_left_out(rt: &HostRuntime, documents: &[Document]) -> u8 {
     let mut status = 0;
-    for (document, is_faulty) in documents.iter().zip(faulty.iter()) {
-        if *is_faulty || document.value().is_none() {
-            let why = "left out, since it has faults: see patchsard lint";
+    for document in documents {
+        if document.value().is_none() {
+            let why = "left out, since it is no JSON: see patchsard lint";
             say_of(rt, document.shown.as_str(), why);
             status = 1;
         }

@@ -10,8 +10,20 @@ pub const RULES: &[Rule] = &[
         text: "The file is not JSON",
     },
     Rule {
+        code: "not-checked",
+        text: "The file is an API description, whose references are not checked",
+    },
+    Rule {
         code: "invalid-uri",
-        text: "The text of an identifier, a $ref or a $schema is not a valid URI reference",
+        text: "The text of an identifier, a reference or a $schema is not a valid URI reference",
+    },
+    Rule {
+        code: "not-a-text",
+        text: "The value of a reference is no text",
+    },
+    Rule {
+        code: "recursive-ref-elsewhere",
+        text: "A $recursiveRef is not #",
     },
     Rule {
         code: "missing-document",
@@ -46,6 +58,10 @@ pub const RULES: &[Rule] = &[
         text: "Two schemas of one resource have the same anchor",
     },
     Rule {
+        code: "identifier-names-nothing",
+        text: "What follows the # of an anchor is a pointer, and names nothing",
+    },
+    Rule {
         code: "unknown-dialect",
         text: "A $schema names a meta-schema that is not among the given files",
     },
@@ -59,6 +75,10 @@ pub const RULES: &[Rule] = &[
 pub fn code_of(problem: &Problem<'_>) -> &'static str {
     match problem {
         Problem::NotJson => "not-json",
+        Problem::NotChecked => "not-checked",
+        Problem::NotAText => "not-a-text",
+        Problem::RecursiveElsewhere => "recursive-ref-elsewhere",
+        Problem::NamesNothing => "identifier-names-nothing",
         Problem::InvalidUri(_) => "invalid-uri",
         Problem::MissingDocument { .. } => "missing-document",
         Problem::LeadsNowhere { error, .. } => code_of_fault(error),
@@ -77,6 +97,10 @@ fn code_of_fault(error: &Error) -> &'static str {
         Error::InvalidArrayIndex { .. } => "invalid-array-index",
         Error::InvalidPercentEncoding { .. } => "invalid-percent-encoding",
         Error::InvalidUri(_) => "invalid-uri",
-        _ => "missing-document",
+        Error::Unretrievable { .. } => "missing-document",
+        Error::UnknownSpecification { .. } => "unknown-specification",
+        Error::CircularMetaschema { .. } => "circular-meta-schema",
+        Error::RetrievalLimit { .. } => "retrieval-limit",
+        Error::Memory(_) => "out-of-memory",
     }
 }

@@ -4,6 +4,7 @@ use ref_draft::Draft;
 use ref_error::{Error, Retrieve, RetrieveError};
 use ref_findings::{Finding, Problem};
 use ref_index::Place;
+use ref_messages::Plain;
 use ref_reading::{Stop, say};
 use ref_uri::Uri;
 use referencing::meta::uris_for_draft;
@@ -36,15 +37,16 @@ pub struct World<'d> {
     pub sources: Vec<usize>,
 }
 
-/// The registry of what was read. A document that is no JSON or is faulty counts as an empty one; of those under one URI
+/// The registry of what was read. Of a document with a text that means no URI the tree in its place is taken; one that is no JSON
+/// counts as an empty one; of those under one URI
 /// the first is taken. Refuses with a text on standard error.
 pub fn world_of<'d>(
     rt: &HostRuntime,
     given: &'d Given,
-    faulty: &[bool],
+    trees: &'d [Option<Value>],
 ) -> Result<World<'d>, Stop> {
     let sources = first_of_each(rt.alloc(), given)?;
-    let registry = reported(rt, prepared(rt.alloc(), given, faulty, sources.as_slice()))?;
+    let registry = reported(rt, prepared(rt.alloc(), given, trees, sources.as_slice()))?;
     Ok(World { registry, sources })
 }
 
@@ -68,22 +70,27 @@ fn stopped(rt: &HostRuntime, error: &Error) -> Stop {
     if error.is_memory() {
         return Stop::Memory;
     }
-    say(rt, error);
-    Stop::Reported
+    match error.to_string(rt.alloc()) {
+        Ok(said) => {
+            say(rt, Plain(said.as_str()));
+            Stop::Reported
+        }
+        Err(_) => Stop::Memory,
+    }
 }
 
 // The registry of the documents with these numbers.
 fn prepared<'d>(
     alloc: Global,
     given: &'d Given,
-    faulty: &[bool],
+    trees: &'d [Option<Value>],
     numbers: &[usize],
 ) -> Result<Registry<'d>, Error> {
     let mut builder = Registry::new(alloc)
         .draft(given.draft)
         .retrieval_limit(usize::MAX);
     for number in numbers {
-        builder = with_document(builder, given, faulty, *number)?;
+        builder = with_document(builder, given, trees, *number)?;
     }
     builder.retriever(Substitutes).prepare()
 }
@@ -92,11 +99,11 @@ fn prepared<'d>(
 fn with_document<'d>(
     builder: RegistryBuilder<'d>,
     given: &'d Given,
-    faulty: &[bool],
+    trees: &'d [Option<Value>],
     number: usize,
 ) -> Result<RegistryBuilder<'d>, Error> {
     match given.uri(number) {
-        Some(uri) => builder.add(uri.as_str(), given.sound_value(number, faulty)),
+        Some(uri) => builder.add(uri.as_str(), given.read_value(number, trees)),
         None => Ok(builder),
     }
 }
@@ -106,10 +113,10 @@ pub fn world_above<'d, 'o: 'd>(
     rt: &HostRuntime,
     above: &'d Registry<'o>,
     given: &Given,
-    faulty: &[bool],
+    trees: &[Option<Value>],
 ) -> Result<World<'d>, Stop> {
     let sources = first_of_each(rt.alloc(), given)?;
-    let prepared = prepared_above(rt.alloc(), above, given, faulty, sources.as_slice());
+    let prepared = prepared_above(rt.alloc(), above, given, trees, sources.as_slice());
     let registry = reported(rt, prepared)?;
     Ok(World { registry, sources })
 }
@@ -118,7 +125,7 @@ fn prepared_above<'d, 'o: 'd>(
     alloc: Global,
     above: &'d Registry<'o>,
     given: &Given,
-    faulty: &[bool],
+    trees: &[Option<Value>],
     numbers: &[usize],
 ) -> Result<Registry<'d>, Error> {
     let mut builder = above
@@ -126,7 +133,7 @@ fn prepared_above<'d, 'o: 'd>(
         .draft(given.draft)
         .retrieval_limit(usize::MAX);
     for number in numbers {
-        builder = with_copy(builder, given, faulty, *number)?;
+        builder = with_copy(builder, given, trees, *number)?;
     }
     builder.retriever(Substitutes).prepare()
 }
@@ -135,13 +142,13 @@ fn prepared_above<'d, 'o: 'd>(
 fn with_copy<'d>(
     builder: RegistryBuilder<'d>,
     given: &Given,
-    faulty: &[bool],
+    trees: &[Option<Value>],
     number: usize,
 ) -> Result<RegistryBuilder<'d>, Error> {
     let Some(uri) = given.uri(number) else {
         return Ok(builder);
     };
-    match given.sound_value(number, faulty).clone() {
+    match given.read_value(number, trees).clone() {
         Ok(value) => builder.add(uri.as_str(), value),
         Err(error) => {
             drop(builder);
@@ -197,18 +204,37 @@ fn first_of_each(alloc: Global, given: &Given) -> Result<Vec<usize>, AllocError>
     Ok(numbers)
 }
 
-/// The number of the document that has each URI: its own, and those of the places in it. Those in place of what isn't
-/// there are left out.
+/// The number of the document that has each URI: its own, and those of the places in it. Of several documents it is the
+/// last, as the registry has it. Those in place of what isn't there are left out.
 pub fn bearers(alloc: Global, world: &World<'_>) -> Result<BTreeMap<String, usize>, AllocError> {
     let places = world.places(alloc)?;
     let mut bearers = BTreeMap::new(alloc);
     for place in &places {
-        if place.document < world.sources.len() && !bearers.contains_key(place.base.as_str()) {
-            let uri = String::from_str(alloc, place.base.as_str())?;
-            bearers.insert(uri, place.document)?;
+        let number = place.document;
+        if number < world.sources.len() {
+            if place.path.is_empty() {
+                if let Some(document) = world.registry.documents().get(number) {
+                    set_bearer(alloc, &mut bearers, document.uri.as_str(), number)?;
+                }
+            }
+            set_bearer(alloc, &mut bearers, place.base.as_str(), number)?;
         }
     }
     Ok(bearers)
+}
+
+fn set_bearer(
+    alloc: Global,
+    bearers: &mut BTreeMap<String, usize>,
+    uri: &str,
+    number: usize,
+) -> Result<(), AllocError> {
+    if let Some(bearer) = bearers.get_mut(uri) {
+        *bearer = number;
+        return Ok(());
+    }
+    bearers.insert(String::from_str(alloc, uri)?, number)?;
+    Ok(())
 }
 
 /// A URI without its fragment.

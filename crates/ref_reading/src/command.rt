@@ -32,12 +32,15 @@ enum Word {
     Reference,
     From,
     With,
+    StdinPath,
     Exclude,
     Verbose,
     Format,
     Language,
+    Connected,
     Output,
     Minify,
+    Strict,
     Base,
     Draft,
     Map,
@@ -85,6 +88,7 @@ pub fn patchsard<'c>(alloc: Global) -> Result<Command<'c>, AllocError> {
 fn without_subcommands<'c>(alloc: Global) -> Result<Command<'c>, AllocError> {
     Command::new(alloc, "patchsard")
         .version("0.1.0")
+        .propagate_version(true)
         .about("Lints, follows, bundles, lists and draws the references of JSON Schema files")
         .arg_required_else_help(true)
         .bin_name("patchsard")?
@@ -110,12 +114,9 @@ fn command_of<'c>(alloc: Global, subcommand: Subcommand) -> Result<Command<'c>, 
 
 // A subcommand without its words.
 fn described<'c>(alloc: Global, subcommand: Subcommand) -> Command<'c> {
-    let command = Command::new(alloc, name_of(subcommand)).about(about(subcommand));
-    let status = status_of(subcommand);
-    if status.is_empty() {
-        return command;
-    }
-    command.after_help(status)
+    Command::new(alloc, name_of(subcommand))
+        .about(about(subcommand))
+        .after_help(status_of(subcommand))
 }
 
 fn name_of<'c>(subcommand: Subcommand) -> &'c str {
@@ -151,13 +152,21 @@ fn status_of<'c>(subcommand: Subcommand) -> &'c str {
         Subcommand::Lint => {
             "Exit status: 0 where nothing is wrong, 1 where something is, 2 where a path can't be read or the command line is wrong."
         }
+        Subcommand::Resolve => {
+            "Exit status: 0 where the reference leads to a value, 1 where it doesn't, 2 where a path can't be read or the command line is wrong."
+        }
+        Subcommand::Places => {
+            "Exit status: 0 where all files are listed, 1 where one has faults, 2 where a path can't be read or the command line is wrong."
+        }
+        Subcommand::Graph => {
+            "Exit status: 0 where all files are drawn, 1 where one is no JSON, 2 where a path can't be read or the command line is wrong."
+        }
         Subcommand::Bundle => {
             "Exit status: 0 where the bundle is written, 1 where there is none, 2 where a path can't be read or written or the command line is wrong, 3 where the text that was made isn't that of the bundle."
         }
         Subcommand::Serve => {
             "docs/PROTOCOL.md describes the calls. Exit status: 0 where standard input ends, 2 where it can't be read, standard output can't be written, or the command line is wrong."
         }
-        _ => "",
     }
 }
 
@@ -166,7 +175,9 @@ fn words_of(subcommand: Subcommand) -> &'static [Word] {
     match subcommand {
         Subcommand::Lint => &[
             Word::Paths,
+            Word::With,
             Word::Exclude,
+            Word::StdinPath,
             Word::Verbose,
             Word::Format,
             Word::Base,
@@ -178,6 +189,7 @@ fn words_of(subcommand: Subcommand) -> &'static [Word] {
             Word::Reference,
             Word::From,
             Word::With,
+            Word::StdinPath,
             Word::Base,
             Word::Draft,
             Word::Map,
@@ -187,6 +199,7 @@ fn words_of(subcommand: Subcommand) -> &'static [Word] {
             Word::With,
             Word::Output,
             Word::Minify,
+            Word::Strict,
             Word::Base,
             Word::Draft,
             Word::Map,
@@ -202,6 +215,7 @@ fn words_of(subcommand: Subcommand) -> &'static [Word] {
             Word::Paths,
             Word::Exclude,
             Word::Language,
+            Word::Connected,
             Word::Base,
             Word::Draft,
             Word::Map,
@@ -266,13 +280,13 @@ fn row_of<'c>(word: Word) -> Row<'c> {
             "paths",
             "PATH",
             Kind::Places,
-            "A file, or a folder: all files below it that end in .json, without hidden folders and links",
+            "A file, or a folder: all files below it that end in .json, without hidden folders and links; or - for standard input",
         ),
         Word::ReferringFile => named(
             "file",
             "FILE",
             Kind::Place,
-            "The file that has the reference",
+            "The file that has the reference, or - for standard input",
         ),
         Word::RootFile => named(
             "file",
@@ -298,6 +312,12 @@ fn row_of<'c>(word: Word) -> Row<'c> {
             Kind::Values,
             "Another file or folder that references may lead into; may be repeated",
         ),
+        Word::StdinPath => named(
+            "stdin-path",
+            "PATH",
+            Kind::Value,
+            "The path that standard input counts as, in messages and for its URI; the file needn't be there",
+        ),
         Word::Exclude => named(
             "exclude",
             "PATH",
@@ -316,6 +336,18 @@ fn row_of<'c>(word: Word) -> Row<'c> {
             "FORMAT",
             Kind::Value,
             "The language of the drawing",
+        ),
+        Word::Connected => named(
+            "connected",
+            "",
+            Kind::Flag,
+            "Leave out files that have no reference and are not referred to",
+        ),
+        Word::Strict => named(
+            "strict",
+            "",
+            Kind::Flag,
+            "Refuse a bundle with an unresolvable pointer or anchor, and write nothing",
         ),
         Word::Output => named(
             "output",

@@ -3,7 +3,7 @@ use crate::buffer::Buffer;
 use crate::files::File;
 use crate::options::Reading;
 use crate::said::say_of;
-use json::{Reader, Scratch, Token};
+use crate::why::why_not;
 use ref_files::{file_uri, uri_below};
 use ref_positions::Position;
 use ref_uri::uri::from_str;
@@ -25,6 +25,10 @@ pub struct Fault {
 pub struct Document {
     /// Its path as it is shown.
     pub shown: String,
+    /// Its absolute path, without links.
+    pub path: String,
+    /// Whether it is asked about, and not only read by `--with`.
+    pub is_own: bool,
     /// The URI that it is under.
     pub uri: Uri,
     /// Its text, or what of it is UTF-8.
@@ -73,7 +77,12 @@ fn read(
     buffer: &mut Buffer,
     file: File,
 ) -> Result<Option<Document>, AllocError> {
-    let bytes = match buffer.read(rt, file.path.as_str()) {
+    let read = if file.is_input {
+        buffer.read_input(rt)
+    } else {
+        buffer.read(rt, file.path.as_str())
+    };
+    let bytes = match read {
         Ok(bytes) => bytes,
         Err(error) => {
             say_of(rt, file.shown.as_str(), error);
@@ -81,7 +90,7 @@ fn read(
         }
     };
     match uri_of(rt, reading, &file)? {
-        Some(uri) => Ok(Some(made(rt.alloc(), file.shown, uri, bytes)?)),
+        Some(uri) => Ok(Some(made(rt.alloc(), file, uri, bytes)?)),
         None => Ok(None),
     }
 }
@@ -104,18 +113,28 @@ fn uri_of(rt: &HostRuntime, reading: &Reading<'_>, file: &File) -> Result<Option
     }
 }
 
-fn made(alloc: Global, shown: String, uri: Uri, bytes: &[u8]) -> Result<Document, AllocError> {
-    let (text, fault) = utf8(alloc, bytes)?;
+fn made(alloc: Global, file: File, uri: Uri, bytes: &[u8]) -> Result<Document, AllocError> {
+    let (text, fault) = utf8(alloc, without_mark(bytes))?;
     let value = match fault {
         Some(fault) => Err(fault),
         None => parsed(alloc, text.as_str())?,
     };
     Ok(Document {
-        shown,
+        shown: file.shown,
+        path: file.path,
+        is_own: file.is_own,
         uri,
         text,
         value,
     })
+}
+
+/// The bytes of a text without a byte order mark at their beginning (RFC 8259, 8.1).
+pub fn without_mark(bytes: &[u8]) -> &[u8] {
+    match bytes {
+        [0xef, 0xbb, 0xbf, rest @ ..] => rest,
+        _ => bytes,
+    }
 }
 
 // The bytes as text, or what of them is UTF-8 and where that ends.
@@ -158,41 +177,38 @@ fn fault_of(alloc: Global, text: &str, error: &serde_json::Error) -> Result<Faul
         return Err(AllocError);
     }
     let said = error.to_string(alloc)?;
-    let why = if is_deep(alloc, text)? {
-        "Not JSON: nested more than 127 levels deep"
-    } else {
-        reason(said.as_str())
-    };
     let offset = line_start(text, error.line()).saturating_add(error.column().saturating_sub(1));
-    fault_at(alloc, text, offset, why)
-}
-
-// What is wrong, by what the reader says.
-fn reason(said: &str) -> &str {
-    match said.rsplit_once(" at line ") {
-        Some(("EOF while parsing", _)) => "Not JSON: the text ends too early",
-        Some(("number out of range", _)) => "Not JSON: the number is out of range",
-        _ => "Not JSON from here on",
+    if said.as_str().starts_with("number out of range") {
+        let offset = number_start(text, offset);
+        return fault_at(
+            alloc,
+            text,
+            offset,
+            "Not JSON: the number is beyond what a double holds",
+        );
+    }
+    match why_not(text) {
+        Some((offset, why)) => fault_at(alloc, text, offset, because(alloc, why)?.as_str()),
+        None => fault_at(alloc, text, offset, "Not JSON from here on"),
     }
 }
 
-// Whether a text nests more than 127 levels deep before anything else is wrong with it.
-fn is_deep(alloc: Global, text: &str) -> Result<bool, AllocError> {
-    let mut scratch = Scratch::new(alloc);
-    let mut reader = Reader::new(text, &mut scratch)?;
-    let mut depth = 0usize;
-    for _ in 0..=text.len() {
-        match reader.next() {
-            Some(Token::BeginObject | Token::BeginArray) => depth = depth.saturating_add(1),
-            Some(Token::EndObject | Token::EndArray) => depth = depth.saturating_sub(1),
-            Some(Token::Bad) | None => return Ok(false),
-            Some(_) => {}
+// Where the number begins that ends at an offset or goes on there.
+fn number_start(text: &str, offset: usize) -> usize {
+    let mut start = 0;
+    for (place, byte) in text.bytes().enumerate() {
+        if place > offset {
+            break;
         }
-        if depth > 127 {
-            return Ok(true);
+        if !matches!(byte, b'0'..=b'9' | b'-' | b'+' | b'.' | b'e' | b'E') && place < offset {
+            start = place.saturating_add(1);
         }
     }
-    Ok(false)
+    start
+}
+
+fn because(alloc: Global, why: &str) -> Result<String, AllocError> {
+    ["Not JSON: ", why].join(alloc, "")
 }
 
 // How many bytes are before a line, whose number is from 1.

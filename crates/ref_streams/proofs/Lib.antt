@@ -3,3 +3,4 @@ mod Writing
 pub mod Cutting
 pub mod Getting
 pub mod Serving
+pub mod OnLiterals

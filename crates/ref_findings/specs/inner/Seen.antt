@@ -25,9 +25,8 @@ use Rattle.ref_findings.specs.declared.walk.Keyword as rust_keyword
 use Rattle.ref_findings.specs.declared.site.Site as rust_site
 use Rattle.ref_findings.specs.declared.survey.Survey as rust_survey
 use Rattle.ref_findings.specs.declared.known.Known as rust_known
-use Rattle.ref_findings.specs.Sources.{Source, document_in, places_in, is_sound}
+use Rattle.ref_findings.specs.Sources.{Source, document_in, places_in, is_sound, tree_in_place}
 use Rattle.std.specs.Option.{option_to_list}
-use Rattle.ref_findings.specs.Mending.{mended_tree}
 use Rattle.ref_findings.specs.Bearers.{Site, uris_borne, names_borne}
 use Rattle.ref_findings.specs.Findings.{Known}
 use Rattle.ref_findings.specs.Entries.{source_of}
@@ -93,8 +92,7 @@ survey_in draft s = record {
   source = s;
   places = places_in draft s;
   is_sound = is_sound draft s;
-  mended =
-      (if is_sound draft s then None else option_map (mended_tree (places_in draft s)) s.tree);
+  mended = tree_in_place draft s;
 }
 
 -- where each is that of its source

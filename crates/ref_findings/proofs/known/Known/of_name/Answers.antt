@@ -19,8 +19,8 @@ returns-in_default c =
     let none : other_bearer k.sites c.args.number (option_copied c.get.result.0) ≡ None = search rules in
     name_problem_is k c.args.number s base c.args.name.now None (option_copied c.get.result.0) c.requires found none
 
-pub returns-then-not-first : goal.returns-then-not-first
-returns-then-not-first c =
+pub returns-then-first-site : goal.returns-then-first-site
+returns-then-first-site c =
     let k = known_in c.args.self.now in
     let s = site_of c.args.site.now in
     let base = c.args.base.now.value in

@@ -1,0 +1,46 @@
+//! Rows of the definitions. Each function is empty: its contract states rows, and the check computes them.
+#![tactic(auto)]
+
+ghost use Rattle.std.specs.Prelude.{◌≡◌, [], ◌∷◌, true, false, codes};
+ghost use Rattle.ref_positions.specs.Lines.{begins_character, next_line, next_column, line_of, column_of, IsAt};
+ghost use Rattle.ref_positions.specs.Rows.{letters};
+
+/// The bytes that begin a character, and those that go on with one (RFC 3629, 3).
+pub fn characters()
+    ensures ascii { begins_character 127 ≡ true }
+    ensures first_that_goes_on { begins_character 128 ≡ false }
+    ensures last_that_goes_on { begins_character 191 ≡ false }
+    ensures of_two_bytes { begins_character 195 ≡ true }
+    ensures of_four_bytes { begins_character 240 ≡ true }
+{}
+
+/// The line and the column after one byte more.
+pub fn next()
+    ensures line_feed { next_line 3 10 ≡ 4 }
+    ensures carriage_return { next_line 3 13 ≡ 3 }
+    ensures after_a_line_feed { next_column 7 10 ≡ 1 }
+    ensures after_a_letter { next_column 7 97 ≡ 8 }
+    ensures after_a_carriage_return { next_column 7 13 ≡ 8 }
+    ensures within_a_character { next_column 7 169 ≡ 7 }
+{}
+
+/// Lines and columns in texts.
+pub fn places()
+    ensures first_line { line_of (codes "ab") 1 ≡ 1 }
+    ensures first_column { column_of (codes "ab") 0 ≡ 1 }
+    ensures second_column { column_of (codes "ab") 1 ≡ 2 }
+    ensures end { column_of (codes "ab") 2 ≡ 3 }
+    ensures on_the_line_feed { line_of (97 ∷ 10 ∷ 98 ∷ []) 1 ≡ 1 }
+    ensures second_line { line_of (97 ∷ 10 ∷ 98 ∷ []) 2 ≡ 2 }
+    ensures first_of_the_second { column_of (97 ∷ 10 ∷ 98 ∷ []) 2 ≡ 1 }
+    ensures with_a_carriage_return { line_of (97 ∷ 13 ∷ 10 ∷ 98 ∷ []) 3 ≡ 2 }
+    ensures carriage_return_alone { line_of (97 ∷ 13 ∷ 98 ∷ []) 2 ≡ 1 }
+    ensures empty_lines { line_of (10 ∷ 10 ∷ []) 2 ≡ 3 }
+    ensures after_two_bytes { column_of letters 2 ≡ 2 }
+    ensures after_five_bytes { column_of letters 5 ≡ 3 }
+    ensures after_nine_bytes { column_of letters 9 ≡ 4 }
+    ensures exact { IsAt (97 ∷ 10 ∷ 98 ∷ []) 3 2 2 }
+    ensures another_line { ¬ (IsAt (97 ∷ 10 ∷ 98 ∷ []) 3 1 2) }
+    ensures another_column { ¬ (IsAt (97 ∷ 10 ∷ 98 ∷ []) 3 2 1) }
+    ensures beyond { ¬ (IsAt (97 ∷ []) 2 1 2) }
+{}
