@@ -3,6 +3,7 @@ use crate::bundle::Sources;
 use percent_encoding::{DecodeError, percent_decode};
 use ref_bundle::{BundleError, Obstacle, Problem, Refusal};
 use ref_index::Place;
+use ref_messages::Plain;
 use ref_parts::path::JsonPointerSegment;
 use ref_parts::{pointer_of, unescape_segment};
 use ref_project::pointer::position;
@@ -32,7 +33,7 @@ impl<'s, 'a, 'd, 'w, 'o> Sources<'s, 'a, 'd, 'w, 'o> {
     fn say_problem(&self, refusal: &Refusal<'_>) -> Result<(), Stop> {
         let place = self.place(refusal.document, refusal.path.as_slice())?;
         let text = text_of(self.rt.alloc(), &refusal.problem)?;
-        let _ = eprintln!(self.rt; "{place}: error: {text}");
+        let _ = eprintln!(self.rt; "{place}: error: {}", Plain(text.as_str()));
         Ok(())
     }
 
@@ -46,12 +47,16 @@ impl<'s, 'a, 'd, 'w, 'o> Sources<'s, 'a, 'd, 'w, 'o> {
                 && is_at(alloc, place.path.as_slice(), pointer.as_str())?
             {
                 if let Some((keyword, text)) = self.refused(place, &refusal.problem)? {
-                    let _ = eprintln!(self.rt; "    {keyword} '{text}' at '{pointer}'");
+                    let _ = eprintln!(self.rt;
+                        "    {keyword} '{}' at '{}'",
+                        Plain(text),
+                        Plain(pointer.as_str())
+                    );
                     return Ok(());
                 }
             }
         }
-        let _ = eprintln!(self.rt; "    at '{pointer}'");
+        let _ = eprintln!(self.rt; "    at '{}'", Plain(pointer.as_str()));
         Ok(())
     }
 
@@ -124,13 +129,13 @@ impl<'s, 'a, 'd, 'w, 'o> Sources<'s, 'a, 'd, 'w, 'o> {
     /// The file, the line and the column of a place of what was read with this number.
     pub fn place_in(&self, number: usize, path: &[JsonPointerSegment<'_>]) -> Result<String, Stop> {
         let alloc = self.rt.alloc();
-        let name = self.read.name(number);
+        let name = Plain(self.read.name(number));
         match self.text_in(number)? {
             Some(text) => {
                 let (line, column) = position(alloc, text.as_str(), path)?;
                 Ok(format!(in alloc; "{name}:{line}:{column}")?)
             }
-            None => Ok(String::from_str(alloc, name)?),
+            None => Ok(format!(in alloc; "{name}")?),
         }
     }
 }

@@ -1,5 +1,6 @@
 //! Messages as annotations of GitHub's workflows.
 use crate::message::{Level, Message};
+use crate::plain::{is_hidden, push_escape};
 use std::alloc::AllocError;
 
 /// Adds a message as a workflow command on a line of its own: `::error file=..,line=..,col=..,title=..::..`.
@@ -41,28 +42,23 @@ fn push_reference(out: &mut String, message: &Message<'_>) -> Result<(), AllocEr
 
 // The text of a property, in which a colon and a comma have a meaning too.
 fn push_property(out: &mut String, text: &str) -> Result<(), AllocError> {
-    for c in text.chars() {
-        match c {
-            ':' => out.push_str("%3A")?,
-            ',' => out.push_str("%2C")?,
-            _ => push_escaped(out, c)?,
-        }
-    }
-    Ok(())
+    push_encoded(out, text, true)
 }
 
 fn push_data(out: &mut String, text: &str) -> Result<(), AllocError> {
-    for c in text.chars() {
-        push_escaped(out, c)?;
-    }
-    Ok(())
+    push_encoded(out, text, false)
 }
 
-fn push_escaped(out: &mut String, c: char) -> Result<(), AllocError> {
-    match c {
-        '%' => out.push_str("%25"),
-        '\r' => out.push_str("%0D"),
-        '\n' => out.push_str("%0A"),
-        _ => out.push(c),
+// Adds a text without what a log would act upon, and a percent sign as a command has it.
+fn push_encoded(out: &mut String, text: &str, is_property: bool) -> Result<(), AllocError> {
+    for c in text.chars() {
+        match c {
+            '%' => out.push_str("%25")?,
+            ':' if is_property => out.push_str("%3A")?,
+            ',' if is_property => out.push_str("%2C")?,
+            _ if is_hidden(c) => push_escape(out, c)?,
+            _ => out.push(c)?,
+        }
     }
+    Ok(())
 }

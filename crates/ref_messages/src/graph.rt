@@ -1,4 +1,5 @@
 //! Drawings of which document refers to which.
+use crate::plain::{is_hidden, push_escape};
 use std::alloc::AllocError;
 
 /// A document in a drawing.
@@ -50,7 +51,7 @@ fn push_mermaid_node(out: &mut String, number: usize, node: &Node) -> Result<(),
         match c {
             '"' => out.push_str("#quot;")?,
             '#' => out.push_str("#35;")?,
-            '\n' | '\r' => out.push(' ')?,
+            _ if is_hidden(c) => push_escape(out, c)?,
             _ => out.push(c)?,
         }
     }
@@ -97,7 +98,10 @@ fn push_dot_node(out: &mut String, number: usize, node: &Node) -> Result<(), All
         match c {
             '"' => out.push_str("\\\"")?,
             '\\' => out.push_str("\\\\")?,
-            '\n' | '\r' => out.push(' ')?,
+            _ if is_hidden(c) => {
+                out.push('\\')?;
+                push_escape(out, c)?;
+            }
             _ => out.push(c)?,
         }
     }

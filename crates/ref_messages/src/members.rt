@@ -1,4 +1,5 @@
 //! Members of JSON objects.
+use crate::plain::push_json;
 use serde_json::Value;
 use std::alloc::{AllocError, Global};
 
@@ -11,7 +12,7 @@ pub(crate) fn push_text(
 ) -> Result<(), AllocError> {
     out.push_str(before)?;
     let text = quoted(alloc, text)?;
-    out.push_str(text.as_str())
+    push_json(out, text.as_str())
 }
 
 /// Adds what is before a text, and the text, where there is one.

@@ -1,5 +1,6 @@
 //! Messages as text for people.
 use crate::message::{Message, Other};
+use crate::plain::Plain;
 use std::alloc::AllocError;
 
 /// Adds a message: a line with its place, and lines with what belongs to it, four blanks in.
@@ -16,23 +17,32 @@ pub fn push_text(out: &mut String, message: &Message<'_>) -> Result<(), AllocErr
 }
 
 fn push_head(out: &mut String, message: &Message<'_>) -> Result<(), AllocError> {
-    let (file, line, column) = (message.file, message.line, message.column);
+    let (file, line, column) = (Plain(message.file), message.line, message.column);
     let (level, code, text) = (message.level.name(), message.code, message.text.as_str());
-    write!(out, "{file}:{line}:{column}: {level}[{code}]: {text}\n")
+    write!(
+        out,
+        "{file}:{line}:{column}: {level}[{code}]: {}\n",
+        Plain(text)
+    )
 }
 
 fn push_reference(out: &mut String, message: &Message<'_>) -> Result<(), AllocError> {
     let (Some(keyword), Some(reference)) = (message.keyword, message.reference) else {
         return Ok(());
     };
+    let reference = Plain(reference);
     match &message.resolved {
-        Some(resolved) => write!(out, "    {keyword} '{reference}' is {resolved}\n"),
+        Some(resolved) => write!(
+            out,
+            "    {keyword} '{reference}' is {}\n",
+            Plain(resolved.as_str())
+        ),
         None => write!(out, "    {keyword} '{reference}'\n"),
     }
 }
 
 fn push_first(out: &mut String, first: &Other) -> Result<(), AllocError> {
-    let (file, line, column) = (first.file.as_str(), first.line, first.column);
+    let (file, line, column) = (Plain(first.file.as_str()), first.line, first.column);
     if line == 0 {
         return write!(out, "    first: {file}\n");
     }

@@ -2,6 +2,7 @@
 use crate::pointer::place_of;
 use ref_draft::Draft;
 use ref_index::Place;
+use ref_messages::Plain;
 use ref_parts::pointer_of;
 use ref_positions::{Places, Position};
 use ref_reading::Document;
@@ -66,12 +67,13 @@ fn push_place(
         None => (1, 1),
     };
     let pointer = pointer_of(alloc, place.path.as_slice())?;
-    let file = document.shown.as_str();
+    let file = Plain(document.shown.as_str());
     let draft = place.draft.name();
     let base = place.base.as_str();
     write!(
         out,
-        "{file}:{line}:{column}: '{pointer}' draft {draft} base {base}"
+        "{file}:{line}:{column}: '{}' draft {draft} base {base}",
+        Plain(pointer.as_str())
     )?;
     push_names(out, place.draft, place.value)?;
     out.push('\n')
@@ -80,11 +82,10 @@ fn push_place(
 // The identifier and the anchors of a place.
 fn push_names(out: &mut String, draft: Draft, value: &Value) -> Result<(), AllocError> {
     if let Some(id) = value.get(draft.id_keyword()).and_then(Value::as_str) {
-        write!(out, " id '{id}'")?;
+        write!(out, " id '{}'", Plain(id))?;
     }
     for anchor in draft.anchors(value) {
-        let name = anchor.name();
-        write!(out, " anchor '{name}'")?;
+        write!(out, " anchor '{}'", Plain(anchor.name()))?;
     }
     Ok(())
 }

@@ -4,6 +4,7 @@ use ref_draft::Draft;
 use ref_error::{Error, Retrieve, RetrieveError};
 use ref_findings::{Finding, Problem};
 use ref_index::Place;
+use ref_messages::Plain;
 use ref_reading::{Stop, say};
 use ref_uri::Uri;
 use referencing::meta::uris_for_draft;
@@ -68,8 +69,13 @@ fn stopped(rt: &HostRuntime, error: &Error) -> Stop {
     if error.is_memory() {
         return Stop::Memory;
     }
-    say(rt, error);
-    Stop::Reported
+    match error.to_string(rt.alloc()) {
+        Ok(said) => {
+            say(rt, Plain(said.as_str()));
+            Stop::Reported
+        }
+        Err(_) => Stop::Memory,
+    }
 }
 
 // The registry of the documents with these numbers.

@@ -3,6 +3,7 @@ use crate::maps::{Map, Maps};
 use crate::stop::Stop;
 use clap::ArgMatches;
 use ref_draft::Draft;
+use ref_messages::Plain;
 use ref_uri::UriRef;
 use std::fs;
 
@@ -21,7 +22,8 @@ pub fn reading_of<'a>(rt: &HostRuntime, given: &ArgMatches<'a>) -> Result<Readin
     if let Some(base) = base {
         if !is_base(base) {
             let _ = eprintln!(rt;
-                "patchsard: --base {base}: not an absolute URI without query and fragment"
+                "patchsard: --base {}: not an absolute URI without query and fragment",
+                Plain(base)
             );
             return Err(Stop::Reported);
         }
@@ -61,7 +63,8 @@ pub fn maps<'r>(rt: &'r HostRuntime, given: &ArgMatches<'_>) -> Result<Maps<'r>,
             }
             _ => {
                 let _ = eprintln!(rt;
-                    "patchsard: --map {text}: not of the form PREFIX=FOLDER with an absolute URI without query and fragment and a folder that is there"
+                    "patchsard: --map {}: not of the form PREFIX=FOLDER with an absolute URI without query and fragment and a folder that is there",
+                    Plain(*text)
                 );
                 return Err(Stop::Reported);
             }
