@@ -3,7 +3,7 @@ use crate::buffer::Buffer;
 use crate::files::File;
 use crate::options::Reading;
 use crate::said::say_of;
-use json::{Reader, Scratch, Token};
+use crate::why::why_not;
 use ref_files::{file_uri, uri_below};
 use ref_positions::Position;
 use ref_uri::uri::from_str;
@@ -105,7 +105,7 @@ fn uri_of(rt: &HostRuntime, reading: &Reading<'_>, file: &File) -> Result<Option
 }
 
 fn made(alloc: Global, shown: String, uri: Uri, bytes: &[u8]) -> Result<Document, AllocError> {
-    let (text, fault) = utf8(alloc, bytes)?;
+    let (text, fault) = utf8(alloc, without_mark(bytes))?;
     let value = match fault {
         Some(fault) => Err(fault),
         None => parsed(alloc, text.as_str())?,
@@ -116,6 +116,14 @@ fn made(alloc: Global, shown: String, uri: Uri, bytes: &[u8]) -> Result<Document
         text,
         value,
     })
+}
+
+/// The bytes of a text without a byte order mark at their beginning (RFC 8259, 8.1).
+pub fn without_mark(bytes: &[u8]) -> &[u8] {
+    match bytes {
+        [0xef, 0xbb, 0xbf, rest @ ..] => rest,
+        _ => bytes,
+    }
 }
 
 // The bytes as text, or what of them is UTF-8 and where that ends.
@@ -158,41 +166,38 @@ fn fault_of(alloc: Global, text: &str, error: &serde_json::Error) -> Result<Faul
         return Err(AllocError);
     }
     let said = error.to_string(alloc)?;
-    let why = if is_deep(alloc, text)? {
-        "Not JSON: nested more than 127 levels deep"
-    } else {
-        reason(said.as_str())
-    };
     let offset = line_start(text, error.line()).saturating_add(error.column().saturating_sub(1));
-    fault_at(alloc, text, offset, why)
-}
-
-// What is wrong, by what the reader says.
-fn reason(said: &str) -> &str {
-    match said.rsplit_once(" at line ") {
-        Some(("EOF while parsing", _)) => "Not JSON: the text ends too early",
-        Some(("number out of range", _)) => "Not JSON: the number is out of range",
-        _ => "Not JSON from here on",
+    if said.as_str().starts_with("number out of range") {
+        let offset = number_start(text, offset);
+        return fault_at(
+            alloc,
+            text,
+            offset,
+            "Not JSON: the number is beyond what a double holds",
+        );
+    }
+    match why_not(text) {
+        Some((offset, why)) => fault_at(alloc, text, offset, because(alloc, why)?.as_str()),
+        None => fault_at(alloc, text, offset, "Not JSON from here on"),
     }
 }
 
-// Whether a text nests more than 127 levels deep before anything else is wrong with it.
-fn is_deep(alloc: Global, text: &str) -> Result<bool, AllocError> {
-    let mut scratch = Scratch::new(alloc);
-    let mut reader = Reader::new(text, &mut scratch)?;
-    let mut depth = 0usize;
-    for _ in 0..=text.len() {
-        match reader.next() {
-            Some(Token::BeginObject | Token::BeginArray) => depth = depth.saturating_add(1),
-            Some(Token::EndObject | Token::EndArray) => depth = depth.saturating_sub(1),
-            Some(Token::Bad) | None => return Ok(false),
-            Some(_) => {}
+// Where the number begins that ends at an offset or goes on there.
+fn number_start(text: &str, offset: usize) -> usize {
+    let mut start = 0;
+    for (place, byte) in text.bytes().enumerate() {
+        if place > offset {
+            break;
         }
-        if depth > 127 {
-            return Ok(true);
+        if !matches!(byte, b'0'..=b'9' | b'-' | b'+' | b'.' | b'e' | b'E') && place < offset {
+            start = place.saturating_add(1);
         }
     }
-    Ok(false)
+    start
+}
+
+fn because(alloc: Global, why: &str) -> Result<String, AllocError> {
+    ["Not JSON: ", why].join(alloc, "")
 }
 
 // How many bytes are before a line, whose number is from 1.

@@ -11,6 +11,7 @@ pub mod maps;
 pub mod options;
 mod said;
 pub mod stop;
+mod why;
 
 pub use console::Console;
 pub use document::Document;

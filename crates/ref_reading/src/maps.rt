@@ -1,7 +1,9 @@
 //! Documents that are read from folders by their URIs.
+use crate::document::parsed;
 use crate::said::say_of;
 use ref_error::{Reason, Retrieve, RetrieveError};
 use ref_files::{below_prefix, names_of, path_below};
+use ref_messages::Plain;
 use ref_uri::uri::from_str;
 use ref_uri::{Uri, UriFault};
 use serde_json::Value;
@@ -105,7 +107,7 @@ impl<'r> Maps<'r> {
     // The text of a file. Of one that can't be read standard error says why.
     fn read_text(&self, path: &str) -> Result<Option<String>, AllocError> {
         match fs::read_to_string(self.rt, path) {
-            Ok(text) => Ok(Some(text)),
+            Ok(text) => Ok(Some(unmarked(self.rt.alloc(), text)?)),
             Err(error) if error.kind() == io::ErrorKind::OutOfMemory => Err(AllocError),
             Err(error) => {
                 say_of(self.rt, path, error);
@@ -119,15 +121,17 @@ impl<'r> Maps<'r> {
         let Some(text) = self.read_text(path)? else {
             return Ok(None);
         };
-        match Value::from_str(alloc, text.as_str()) {
+        match parsed(alloc, text.as_str())? {
             Ok(value) => Ok(Some(value)),
-            Err(error) => {
-                let is_memory = error.is_memory();
-                if !is_memory {
-                    say_of(self.rt, path, &error);
-                }
-                drop(error);
-                if is_memory { Err(AllocError) } else { Ok(None) }
+            Err(fault) => {
+                let _ = eprintln!(self.rt;
+                    "patchsard: {}:{}:{}: {}",
+                    Plain(path),
+                    fault.line,
+                    fault.column,
+                    fault.text
+                );
+                Ok(None)
             }
         }
     }
@@ -145,6 +149,14 @@ impl<'r> Maps<'r> {
             Some(path) => self.read(alloc, path.as_str()),
             None => Ok(None),
         }
+    }
+}
+
+// A text without a byte order mark at its beginning.
+fn unmarked(alloc: Global, text: String) -> Result<String, AllocError> {
+    match text.as_str().strip_prefix('\u{feff}') {
+        Some(rest) => String::from_str(alloc, rest),
+        None => Ok(text),
     }
 }
 
