@@ -3,7 +3,7 @@ use clap::ArgMatches;
 use ref_draft::Draft;
 use ref_findings::{Finding, Held, Problem, Report, Source, as_sources, gather, report};
 use ref_reading::document::{Document, read_all};
-use ref_reading::files::{Listing, list_file, list_given};
+use ref_reading::files::{list_file, list_given};
 use ref_reading::options::{maps, reading_of};
 use ref_reading::{Maps, Stop};
 use ref_uri::Uri;
@@ -13,8 +13,10 @@ use std::alloc::{AllocError, Global};
 /// What was read for a command line.
 #[derive(Drop)]
 pub struct Given {
-    /// The files, in byte order of their paths.
+    /// The files, in byte order of their paths: those that are asked about, and then those that are only read, by `--with`.
     pub documents: Vec<Document>,
+    /// How many of the files are asked about.
+    pub own: usize,
     /// What was read from maps.
     pub held: Vec<Held>,
     /// The draft of files that name none.
@@ -28,11 +30,11 @@ pub struct Given {
 /// Reads the paths of a command line.
 pub fn read_given(rt: &HostRuntime, given: &ArgMatches<'_>) -> Result<Given, Stop> {
     let reading = reading_of(rt, given)?;
-    let mut listing = Listing::new(rt);
-    list_given(&mut listing, given)?;
-    let mut has_failed = listing.has_failed;
-    let documents = read_all(rt, &reading, listing.into_files()?, &mut has_failed)?;
-    with_held(rt, given, reading.draft, documents, has_failed)
+    let mut has_failed = false;
+    let files = list_given(rt, given, &mut has_failed)?;
+    let documents = read_all(rt, &reading, files, &mut has_failed)?;
+    let own = own_of(documents.as_slice());
+    with_held(rt, given, reading.draft, (documents, own), has_failed)
 }
 
 /// Reads the file that a command line names, and after it those of `--with`. A file that is to be written isn't read
@@ -46,7 +48,8 @@ pub fn read_file(
     let mut has_failed = false;
     let files = list_file(rt, given, output, &mut has_failed)?;
     let documents = read_all(rt, &reading, files, &mut has_failed)?;
-    with_held(rt, given, reading.draft, documents, has_failed)
+    let count = documents.len();
+    with_held(rt, given, reading.draft, (documents, count), has_failed)
 }
 
 // Reads what files want from maps.
@@ -54,18 +57,31 @@ fn with_held(
     rt: &HostRuntime,
     given: &ArgMatches<'_>,
     draft: Draft,
-    documents: Vec<Document>,
+    (documents, own): (Vec<Document>, usize),
     has_failed: bool,
 ) -> Result<Given, Stop> {
     let maps = maps(rt, given)?;
     let held = gathered(rt.alloc(), &maps, draft, documents.as_slice())?;
     Ok(Given {
         documents,
+        own,
         held,
         draft,
         has_failed,
         empty: Value::Object(Map::new(rt.alloc())),
     })
+}
+
+// How many documents are asked about. They come first.
+fn own_of(documents: &[Document]) -> usize {
+    let mut count: usize = 0;
+    for document in documents {
+        if !document.is_own {
+            break;
+        }
+        count = count.saturating_add(1);
+    }
+    count
 }
 
 fn gathered(
@@ -111,8 +127,14 @@ pub fn faulty_of(
 impl Given {
     /// What is wrong with the files, and how many references they have.
     pub fn report<'d>(&'d self, alloc: Global) -> Result<Report<'d>, AllocError> {
-        let own = sources_of(alloc, self.documents.as_slice())?;
-        let others = as_sources(alloc, self.held.as_slice())?;
+        let documents = self.documents.as_slice();
+        let own = documents.get(..self.own).unwrap_or(documents);
+        let with = documents.get(self.own..).unwrap_or(&[]);
+        let own = sources_of(alloc, own)?;
+        let mut others = sources_of(alloc, with)?;
+        for source in as_sources(alloc, self.held.as_slice())? {
+            others.push(source)?;
+        }
         report(alloc, self.draft, own.as_slice(), others.as_slice())
     }
 
@@ -129,10 +151,10 @@ impl Given {
     }
 
     /// Keeps the files to the end of the program, which is faster than to free their values one by one, and returns how
-    /// many there are.
+    /// many are asked about.
     pub fn keep(self) -> usize {
         let kept = self.documents.leak();
-        kept.len()
+        self.own.min(kept.len())
     }
 
     /// How many documents there are: files, and after them what was read from maps.

@@ -8,6 +8,7 @@ mod edges;
 mod follow;
 pub mod given;
 pub mod graph;
+mod left_out;
 pub mod lint;
 mod listing;
 pub mod places;

@@ -1,6 +1,7 @@
 //! `patchsard lint`.
 use crate::describe::Describer;
 use crate::given::{Given, read_given};
+use crate::left_out::say_broken;
 use crate::rules::RULES;
 use clap::ArgMatches;
 use ref_messages::{Level, Message, push_annotation, push_line, push_sarif, push_text};
@@ -35,6 +36,7 @@ pub fn lint(
 ) -> Result<u8, Stop> {
     let begin = Instant::now(rt);
     let read = read_given(rt, given)?;
+    say_broken(rt, read.documents.get(read.own..).unwrap_or(&[]));
     let is_verbose = given.get_flag("verbose");
     let listed = list_all(rt.alloc(), console, form_of(given), is_verbose, &read);
     let has_failed = read.has_failed;

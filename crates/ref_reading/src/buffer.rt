@@ -24,6 +24,17 @@ impl Buffer {
     /// The bytes of a file.
     pub fn read(&mut self, rt: &HostRuntime, path: &str) -> io::Result<&[u8]> {
         let mut file = File::open(rt, path)?;
+        self.fill(&mut file)
+    }
+
+    /// The bytes of standard input.
+    pub fn read_input(&mut self, rt: &HostRuntime) -> io::Result<&[u8]> {
+        let mut input = rt.stdin();
+        self.fill(&mut input)
+    }
+
+    // The bytes of a reader.
+    fn fill<R: Read>(&mut self, reader: &mut R) -> io::Result<&[u8]> {
         let mut end: usize = 0;
         for _ in 0..u64::MAX {
             self.make_room(end)?;
@@ -31,7 +42,7 @@ impl Buffer {
             if end >= room.len() {
                 break;
             }
-            match file.read(&mut room[end..]) {
+            match reader.read(&mut room[end..]) {
                 Ok(0) => break,
                 Ok(count) => end = end.saturating_add(count),
                 Err(error) if error.kind() == ErrorKind::Interrupted => {}

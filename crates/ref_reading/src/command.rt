@@ -32,6 +32,7 @@ enum Word {
     Reference,
     From,
     With,
+    StdinPath,
     Exclude,
     Verbose,
     Format,
@@ -166,7 +167,9 @@ fn words_of(subcommand: Subcommand) -> &'static [Word] {
     match subcommand {
         Subcommand::Lint => &[
             Word::Paths,
+            Word::With,
             Word::Exclude,
+            Word::StdinPath,
             Word::Verbose,
             Word::Format,
             Word::Base,
@@ -178,6 +181,7 @@ fn words_of(subcommand: Subcommand) -> &'static [Word] {
             Word::Reference,
             Word::From,
             Word::With,
+            Word::StdinPath,
             Word::Base,
             Word::Draft,
             Word::Map,
@@ -266,13 +270,13 @@ fn row_of<'c>(word: Word) -> Row<'c> {
             "paths",
             "PATH",
             Kind::Places,
-            "A file, or a folder: all files below it that end in .json, without hidden folders and links",
+            "A file, or a folder: all files below it that end in .json, without hidden folders and links; or - for standard input",
         ),
         Word::ReferringFile => named(
             "file",
             "FILE",
             Kind::Place,
-            "The file that has the reference",
+            "The file that has the reference, or - for standard input",
         ),
         Word::RootFile => named(
             "file",
@@ -297,6 +301,12 @@ fn row_of<'c>(word: Word) -> Row<'c> {
             "PATH",
             Kind::Values,
             "Another file or folder that references may lead into; may be repeated",
+        ),
+        Word::StdinPath => named(
+            "stdin-path",
+            "PATH",
+            Kind::Value,
+            "The path that standard input counts as, in messages and for its URI; the file needn't be there",
         ),
         Word::Exclude => named(
             "exclude",

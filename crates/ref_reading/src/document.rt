@@ -25,6 +25,10 @@ pub struct Fault {
 pub struct Document {
     /// Its path as it is shown.
     pub shown: String,
+    /// Its absolute path, without links.
+    pub path: String,
+    /// Whether it is asked about, and not only read by `--with`.
+    pub is_own: bool,
     /// The URI that it is under.
     pub uri: Uri,
     /// Its text, or what of it is UTF-8.
@@ -73,7 +77,12 @@ fn read(
     buffer: &mut Buffer,
     file: File,
 ) -> Result<Option<Document>, AllocError> {
-    let bytes = match buffer.read(rt, file.path.as_str()) {
+    let read = if file.is_input {
+        buffer.read_input(rt)
+    } else {
+        buffer.read(rt, file.path.as_str())
+    };
+    let bytes = match read {
         Ok(bytes) => bytes,
         Err(error) => {
             say_of(rt, file.shown.as_str(), error);
@@ -81,7 +90,7 @@ fn read(
         }
     };
     match uri_of(rt, reading, &file)? {
-        Some(uri) => Ok(Some(made(rt.alloc(), file.shown, uri, bytes)?)),
+        Some(uri) => Ok(Some(made(rt.alloc(), file, uri, bytes)?)),
         None => Ok(None),
     }
 }
@@ -104,14 +113,16 @@ fn uri_of(rt: &HostRuntime, reading: &Reading<'_>, file: &File) -> Result<Option
     }
 }
 
-fn made(alloc: Global, shown: String, uri: Uri, bytes: &[u8]) -> Result<Document, AllocError> {
+fn made(alloc: Global, file: File, uri: Uri, bytes: &[u8]) -> Result<Document, AllocError> {
     let (text, fault) = utf8(alloc, without_mark(bytes))?;
     let value = match fault {
         Some(fault) => Err(fault),
         None => parsed(alloc, text.as_str())?,
     };
     Ok(Document {
-        shown,
+        shown: file.shown,
+        path: file.path,
+        is_own: file.is_own,
         uri,
         text,
         value,

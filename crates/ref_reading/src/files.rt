@@ -1,10 +1,13 @@
 //! The files that paths name, and those below folders.
 use crate::said::say_of;
 use clap::ArgMatches;
+use ref_messages::{Plain, PlainBytes};
+use simdutf8::compat::from_utf8;
 use std::alloc::{AllocError, Global};
 use std::collections::BTreeMap;
 use std::fmt::Display;
-use std::fs::DirEntry;
+use std::fs::{DirEntry, Files};
+use std::io::Read;
 use std::{fs, io};
 
 /// A file that is to be read.
@@ -16,6 +19,10 @@ pub struct File {
     pub path: String,
     /// Its path below the folder that was given, or its name.
     pub below: String,
+    /// Whether it is read from standard input.
+    pub is_input: bool,
+    /// Whether it is asked about, and not only read by `--with`.
+    pub is_own: bool,
 }
 
 // A folder whose files are to be listed.
@@ -26,6 +33,17 @@ struct Folder {
     below: String,
 }
 
+// What is left out.
+#[derive(Drop)]
+struct Excluded {
+    // As it was given.
+    given: String,
+    // Its path without links, where it is there.
+    path: Option<String>,
+    // Whether something was left out by it.
+    is_used: bool,
+}
+
 /// The files that are to be read.
 #[derive(Drop)]
 pub struct Listing<'r> {
@@ -33,7 +51,11 @@ pub struct Listing<'r> {
     // By their absolute paths, so that each is listed once.
     files: BTreeMap<String, File>,
     folders: Vec<Folder>,
-    excluded: Vec<String>,
+    excluded: Vec<Excluded>,
+    // The path that standard input counts as.
+    input: String,
+    // Whether what is added is asked about, and not only read.
+    is_own: bool,
     /// Whether a path couldn't be read, which standard error says.
     pub has_failed: bool,
 }
@@ -46,21 +68,47 @@ impl<'r> Listing<'r> {
             files: BTreeMap::new(rt.alloc()),
             folders: Vec::new(rt.alloc()),
             excluded: Vec::new(rt.alloc()),
+            input: String::new(rt.alloc()),
+            is_own: true,
             has_failed: false,
         }
     }
 
     /// Leaves out the file at a path, or the files below a folder. A path that isn't there leaves out nothing.
     pub fn exclude(&mut self, path: &str) -> Result<(), AllocError> {
-        if let Ok(real) = fs::canonicalize(self.rt, path) {
-            self.excluded.push(real.into_string())?;
-        }
+        let given = String::from_str(self.rt.alloc(), path)?;
+        let path = match fs::canonicalize(self.rt, path) {
+            Ok(real) => Some(real.into_string()),
+            Err(error) if error.kind() == io::ErrorKind::OutOfMemory => return Err(AllocError),
+            Err(_) => None,
+        };
+        self.excluded.push(Excluded {
+            given,
+            path,
+            is_used: false,
+        })?;
         Ok(())
     }
 
-    /// Adds the file at a path, or the files below a folder.
+    /// Adds the file at a path, or the files below a folder, or standard input.
     pub fn add(&mut self, path: &str) -> Result<(), AllocError> {
-        let alloc = self.rt.alloc();
+        if is_input(path) {
+            return self.add_input();
+        }
+        let data = match fs::metadata(self.rt, path) {
+            Ok(data) => data,
+            Err(error) => {
+                self.fail(path, error);
+                return Ok(());
+            }
+        };
+        if !data.is_dir() && !data.is_file() {
+            self.fail(
+                path,
+                "not a regular file; a pipe is read as standard input, by -",
+            );
+            return Ok(());
+        }
         let real = match fs::canonicalize(self.rt, path) {
             Ok(real) => real.into_string(),
             Err(error) => {
@@ -68,27 +116,45 @@ impl<'r> Listing<'r> {
                 return Ok(());
             }
         };
-        match fs::metadata(self.rt, real.as_str()) {
-            Ok(data) if data.is_dir() => self.add_folder(path, real),
-            Ok(data) if data.is_file() => {
-                let below = String::from_str(alloc, last_name(real.as_str()))?;
-                self.add_file(path, real, below)
-            }
-            Ok(_) => {
-                self.fail(path, "not a regular file");
-                Ok(())
-            }
-            Err(error) => {
-                self.fail(path, error);
-                Ok(())
-            }
+        if data.is_dir() {
+            return self.add_folder(path, real);
         }
+        let below = String::from_str(self.rt.alloc(), last_name(real.as_str()))?;
+        self.add_file(path, real, below)
+    }
+
+    // Adds standard input, in place of the file whose path it counts as.
+    fn add_input(&mut self) -> Result<(), AllocError> {
+        let path = match self.input_path() {
+            Ok(path) => path,
+            Err(error) if error.kind() == io::ErrorKind::OutOfMemory => return Err(AllocError),
+            Err(error) => {
+                self.fail("-", error);
+                return Ok(());
+            }
+        };
+        let alloc = self.rt.alloc();
+        let below = String::from_str(alloc, last_name(path.as_str()))?;
+        let shown = self.input.clone()?;
+        self.put(shown, path, below, true)
+    }
+
+    // The absolute path that standard input counts as: its file needn't be there, but its folder.
+    fn input_path(&self) -> io::Result<String> {
+        let input = self.input.as_str();
+        if let Ok(real) = fs::canonicalize(self.rt, input) {
+            return Ok(real.into_string());
+        }
+        let (folder, name) = input.rsplit_once('/').unwrap_or((".", input));
+        let folder = if folder.is_empty() { "/" } else { folder };
+        let real = fs::canonicalize(self.rt, folder)?.into_string();
+        Ok(joined(self.rt.alloc(), real.as_str(), name)?)
     }
 
     /// Adds the file at a path.
     pub fn add_one(&mut self, path: &str) -> Result<(), AllocError> {
         match fs::metadata(self.rt, path) {
-            Ok(data) if data.is_dir() => {
+            Ok(data) if data.is_dir() && !is_input(path) => {
                 self.fail(path, "a folder, where one file is asked for");
                 Ok(())
             }
@@ -96,13 +162,16 @@ impl<'r> Listing<'r> {
         }
     }
 
-    /// The files in byte order of their paths as they are shown.
+    /// The files: those that are asked about, and then those that are only read, in byte order of their paths as they
+    /// are shown.
     pub fn into_files(self) -> Result<Vec<File>, AllocError> {
         let mut files = Vec::new(self.rt.alloc());
         for (_, file) in self.files {
             files.push(file)?;
         }
-        files.sort_unstable_by(|file, other| file.shown.cmp(&other.shown));
+        files.sort_unstable_by(|file, other| {
+            (!file.is_own, file.shown.as_str()).cmp(&(!other.is_own, other.shown.as_str()))
+        });
         Ok(files)
     }
 
@@ -111,24 +180,65 @@ impl<'r> Listing<'r> {
         say_of(self.rt, path, why);
     }
 
-    fn is_excluded(&self, path: &str) -> bool {
-        for excluded in &self.excluded {
-            if let Some(rest) = path.strip_prefix(excluded.as_str()) {
-                if rest.is_empty() || rest.starts_with('/') {
-                    return true;
-                }
+    fn is_excluded(&mut self, path: &str) -> bool {
+        let mut is_excluded = false;
+        for excluded in &mut self.excluded {
+            if excluded.has(path) {
+                excluded.is_used = true;
+                is_excluded = true;
             }
         }
-        false
+        is_excluded
+    }
+
+    // Says which paths left out nothing.
+    fn say_unused(&self) {
+        for excluded in &self.excluded {
+            if !excluded.is_used {
+                let _ = eprintln!(self.rt;
+                    "patchsard: --exclude {}: leaves out nothing; it is the path of a file or a folder from here, and no pattern",
+                    Plain(excluded.given.as_str())
+                );
+            }
+        }
     }
 
     fn add_file(&mut self, shown: &str, path: String, below: String) -> Result<(), AllocError> {
-        if self.is_excluded(path.as_str()) || self.files.contains_key(path.as_str()) {
+        if self.is_excluded(path.as_str()) {
+            return Ok(());
+        }
+        let shown = String::from_str(self.rt.alloc(), shown)?;
+        self.put(shown, path, below, false)
+    }
+
+    // Adds a file. One that is there already has its path below the folder of `--with`, and its text is that of
+    // standard input where that counts as it.
+    fn put(
+        &mut self,
+        shown: String,
+        path: String,
+        below: String,
+        is_input: bool,
+    ) -> Result<(), AllocError> {
+        let is_own = self.is_own;
+        if let Some(file) = self.files.get_mut(path.as_str()) {
+            file.is_input |= is_input;
+            if file.is_own && !is_own {
+                file.below = below;
+            }
             return Ok(());
         }
         let key = path.clone()?;
-        let shown = String::from_str(self.rt.alloc(), shown)?;
-        self.files.insert(key, File { shown, path, below })?;
+        self.files.insert(
+            key,
+            File {
+                shown,
+                path,
+                below,
+                is_input,
+                is_own,
+            },
+        )?;
         Ok(())
     }
 
@@ -160,6 +270,7 @@ impl<'r> Listing<'r> {
     }
 
     fn list(&mut self, folder: &Folder) -> Result<(), AllocError> {
+        let mut has_other_names = false;
         match fs::read_dir(self.rt, folder.path.as_str()) {
             Ok(entries) => {
                 for entry in entries {
@@ -168,13 +279,42 @@ impl<'r> Listing<'r> {
                         Err(error) if error.kind() == io::ErrorKind::OutOfMemory => {
                             return Err(AllocError);
                         }
-                        Err(_) => self.fail(folder.shown.as_str(), "has a name that is not UTF-8"),
+                        Err(error) if error.kind() == io::ErrorKind::InvalidFilename => {
+                            has_other_names = true;
+                        }
+                        Err(error) => self.fail(folder.shown.as_str(), error),
                     }
                 }
             }
             Err(error) => self.fail(folder.shown.as_str(), error),
         }
+        if has_other_names {
+            self.fail_other_names(folder);
+        }
         Ok(())
+    }
+
+    // Says which names in a folder are no UTF-8.
+    fn fail_other_names(&mut self, folder: &Folder) {
+        self.has_failed = true;
+        let Ok(mut names) = self.rt.open_dir(folder.path.as_str()) else {
+            return say_of(
+                self.rt,
+                folder.shown.as_str(),
+                "has a name that is not UTF-8",
+            );
+        };
+        let mut buffer = [0u8; 4096];
+        for _ in 0..u64::MAX {
+            match names.read(&mut buffer) {
+                Ok(0) | Err(_) => break,
+                Ok(count) => say_other_names(
+                    self.rt,
+                    folder.shown.as_str(),
+                    buffer.get(..count).unwrap_or(&[]),
+                ),
+            }
+        }
     }
 
     // Takes what is in a folder.
@@ -227,14 +367,25 @@ impl<'r> Listing<'r> {
     }
 }
 
-/// Adds to a listing what a command line names.
-pub fn list_given(listing: &mut Listing<'_>, given: &ArgMatches<'_>) -> Result<(), AllocError> {
+/// The files that a command line names, and after them those of `--with`.
+pub fn list_given(
+    rt: &HostRuntime,
+    given: &ArgMatches<'_>,
+    has_failed: &mut bool,
+) -> Result<Vec<File>, AllocError> {
+    let mut listing = Listing::new(rt);
+    listing.input = input_of(rt, given)?;
     if let Some(paths) = given.get_strs("exclude") {
         for path in paths {
             listing.exclude(*path)?;
         }
     }
-    listing.add_given(given, "paths")
+    listing.add_given(given, "paths")?;
+    listing.is_own = false;
+    listing.add_given(given, "with")?;
+    listing.say_unused();
+    *has_failed |= listing.has_failed;
+    listing.into_files()
 }
 
 /// The file that a command line names, and after it those of `--with` without a file that is to be written. Where it is
@@ -245,42 +396,52 @@ pub fn list_file(
     output: Option<&str>,
     has_failed: &mut bool,
 ) -> Result<Vec<File>, AllocError> {
-    let mut own = Listing::new(rt);
-    own.add_one(given.get_str("file").unwrap_or(""))?;
-    *has_failed |= own.has_failed;
-    let mut files = own.into_files()?;
-    for other in list_others(rt, given, output, has_failed)? {
-        put_other(&mut files, other)?;
-    }
-    Ok(files)
-}
-
-// The files of `--with` without one that is to be written.
-fn list_others(
-    rt: &HostRuntime,
-    given: &ArgMatches<'_>,
-    output: Option<&str>,
-    has_failed: &mut bool,
-) -> Result<Vec<File>, AllocError> {
-    let mut others = Listing::new(rt);
+    let mut listing = Listing::new(rt);
+    listing.input = input_of(rt, given)?;
+    listing.add_one(given.get_str("file").unwrap_or(""))?;
+    listing.is_own = false;
     if let Some(path) = output {
-        others.exclude(path)?;
+        listing.exclude(path)?;
     }
-    others.add_given(given, "with")?;
-    *has_failed |= others.has_failed;
-    others.into_files()
+    listing.add_given(given, "with")?;
+    *has_failed |= listing.has_failed;
+    listing.into_files()
 }
 
-// Adds a file after the first, or takes its path below its folder where it is the first.
-fn put_other(files: &mut Vec<File>, other: File) -> Result<(), AllocError> {
-    if let Some(first) = files.first_mut() {
-        if first.path == other.path {
-            first.below = other.below;
-            return Ok(());
+// The path that standard input counts as.
+fn input_of(rt: &HostRuntime, given: &ArgMatches<'_>) -> Result<String, AllocError> {
+    String::from_str(rt.alloc(), given.get_str("stdin-path").unwrap_or("-"))
+}
+
+// Whether a path means standard input.
+fn is_input(path: &str) -> bool {
+    matches!(path, "-" | "/dev/stdin" | "/dev/fd/0" | "/proc/self/fd/0")
+}
+
+// Says which of these names, each ended by a NUL, are no UTF-8.
+fn say_other_names(rt: &HostRuntime, folder: &str, names: &[u8]) {
+    for name in names.split(|byte| *byte == 0) {
+        if from_utf8(name).is_err() {
+            let _ = eprintln!(rt;
+                "patchsard: {}/{}: a name that is not UTF-8",
+                Plain(folder),
+                PlainBytes(name)
+            );
         }
     }
-    files.push(other)?;
-    Ok(())
+}
+
+impl Excluded {
+    // Whether it is the file at a path, or a folder that has it below.
+    fn has(&self, path: &str) -> bool {
+        let Some(own) = &self.path else {
+            return false;
+        };
+        match path.strip_prefix(own.as_str()) {
+            Some(rest) => rest.is_empty() || rest.starts_with('/'),
+            None => false,
+        }
+    }
 }
 
 fn without_slash(path: &str) -> &str {
