@@ -122,7 +122,7 @@ impl<'s, 'a, 'd, 'w, 'o> Sources<'s, 'a, 'd, 'w, 'o> {
     // Prints what is wrong with the documents that are needed, and returns whether that keeps them from being bundled:
     // an unresolvable pointer or anchor doesn't.
     fn has_faults(&self, needed: &[bool]) -> Result<bool, AllocError> {
-        let mut describer = Describer::new(self.rt.alloc(), self.read, self.list, false)?;
+        let mut describer = Describer::new(self.rt, self.read, self.list, false)?;
         let is_faulty = self.say_faults(&mut describer, needed);
         drop(describer);
         is_faulty

@@ -11,6 +11,10 @@ pub fn push_annotation(out: &mut String, message: &Message<'_>) -> Result<(), Al
     if let Some(suggestion) = &message.suggestion {
         push_suggestion(out, suggestion.as_str())?;
     }
+    if let Some(help) = &message.help {
+        out.push_str(", help: ")?;
+        push_data(out, help.as_str())?;
+    }
     out.push('\n')
 }
 

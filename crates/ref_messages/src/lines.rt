@@ -55,7 +55,8 @@ fn push_reference(
     push_option(alloc, out, ",\"keyword\":", message.keyword)?;
     push_option(alloc, out, ",\"reference\":", message.reference)?;
     push_option(alloc, out, ",\"resolved\":", text_of(&message.resolved))?;
-    push_option(alloc, out, ",\"suggestion\":", text_of(&message.suggestion))
+    push_option(alloc, out, ",\"suggestion\":", text_of(&message.suggestion))?;
+    push_option(alloc, out, ",\"help\":", text_of(&message.help))
 }
 
 fn text_of(text: &Option<String>) -> Option<&str> {

@@ -57,6 +57,8 @@ pub struct Message<'m> {
     pub resolved: Option<String>,
     /// What may be meant.
     pub suggestion: Option<String>,
+    /// What to do.
+    pub help: Option<String>,
     /// The place that it clashes with.
     pub first: Option<Other>,
 }

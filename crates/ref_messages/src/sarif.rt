@@ -102,6 +102,9 @@ fn text_of(message: &Message<'_>) -> Result<String, AllocError> {
     if let Some(suggestion) = &message.suggestion {
         write!(text, ", did you mean '{suggestion}'?")?;
     }
+    if let Some(help) = &message.help {
+        write!(text, ", help: {help}")?;
+    }
     Ok(text)
 }
 

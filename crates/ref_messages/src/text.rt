@@ -10,8 +10,11 @@ pub fn push_text(out: &mut String, message: &Message<'_>) -> Result<(), AllocErr
     if let Some(first) = &message.first {
         push_first(out, first)?;
     }
-    match &message.suggestion {
-        Some(suggestion) => write!(out, "    did you mean '{suggestion}'?\n"),
+    if let Some(suggestion) = &message.suggestion {
+        write!(out, "    did you mean '{}'?\n", Plain(suggestion.as_str()))?;
+    }
+    match &message.help {
+        Some(help) => write!(out, "    help: {}\n", Plain(help.as_str())),
         None => Ok(()),
     }
 }

@@ -1,4 +1,6 @@
 //! Findings as messages.
+use crate::beside::beside;
+use crate::documents::{meant_document, other_uri};
 use crate::given::Given;
 use crate::resources::Resources;
 use crate::rules::code_of;
@@ -18,6 +20,7 @@ const STEPS: usize = 3_200_000;
 /// The messages on findings, in the order in which they are listed: by file, line and column.
 #[derive(Drop)]
 pub struct Describer<'l, 'd> {
+    rt: &'l HostRuntime,
     alloc: Global,
     given: &'d Given,
     list: &'l [Finding<'d>],
@@ -32,14 +35,16 @@ pub struct Describer<'l, 'd> {
 impl<'l, 'd> Describer<'l, 'd> {
     /// The messages on findings in these files, with those on references that weren't checked where they are asked for.
     pub fn new(
-        alloc: Global,
+        rt: &'l HostRuntime,
         given: &'d Given,
         list: &'l [Finding<'d>],
         is_verbose: bool,
     ) -> Result<Describer<'l, 'd>, AllocError> {
+        let alloc = rt.alloc();
         let spots = spots_of(alloc, given.documents.as_slice(), list)?;
         let order = order_of(alloc, given, &spots, list, is_verbose)?;
         Ok(Describer {
+            rt,
             alloc,
             given,
             list,
@@ -90,6 +95,7 @@ impl<'l, 'd> Describer<'l, 'd> {
             reference: finding.text,
             resolved: None,
             suggestion: None,
+            help: None,
             first: None,
         };
         match self.complete(&mut message, number, finding) {
@@ -111,7 +117,8 @@ impl<'l, 'd> Describer<'l, 'd> {
         message.pointer = pointer_of(self.alloc, finding.path.as_slice())?;
         message.text = self.text(finding)?;
         message.resolved = resolved(self.alloc, finding)?;
-        message.suggestion = self.suggestion(&finding.problem)?;
+        message.suggestion = self.suggestion(finding)?;
+        message.help = self.help(finding)?;
         message.first = self.first(number, &finding.problem)?;
         Ok(())
     }
@@ -152,17 +159,24 @@ impl<'l, 'd> Describer<'l, 'd> {
         String::from_str(self.alloc, why)
     }
 
-    fn suggestion(&mut self, problem: &Problem<'_>) -> Result<Option<String>, AllocError> {
-        let Problem::LeadsNowhere { uri, error } = problem else {
-            return Ok(None);
-        };
-        self.suggestion_in(uri, error)
+    fn suggestion(&mut self, finding: &Finding<'_>) -> Result<Option<String>, AllocError> {
+        match &finding.problem {
+            Problem::LeadsNowhere { uri, error } => self.suggestion_in(uri, error),
+            Problem::MissingDocument { uri } => self.suggested_document(finding, uri),
+            _ => Ok(None),
+        }
     }
 
-    fn suggestion_in(&mut self, uri: &Uri, error: &Error) -> Result<Option<String>, AllocError> {
+    // Makes what references may mean, where it isn't made yet.
+    fn prepare(&mut self) -> Result<(), AllocError> {
         if self.resources.is_none() {
             self.resources = Some(Resources::of(self.alloc, self.given)?);
         }
+        Ok(())
+    }
+
+    fn suggestion_in(&mut self, uri: &Uri, error: &Error) -> Result<Option<String>, AllocError> {
+        self.prepare()?;
         let Some(resources) = &self.resources else {
             return Ok(None);
         };
@@ -170,6 +184,38 @@ impl<'l, 'd> Describer<'l, 'd> {
             Some(resource) => suggestion(self.alloc, &mut self.suggester, resource, error),
             None => Ok(None),
         }
+    }
+
+    // What is meant by the text of a finding, where no document has its URI.
+    fn suggested_document(
+        &mut self,
+        finding: &Finding<'_>,
+        uri: &Uri,
+    ) -> Result<Option<String>, AllocError> {
+        self.prepare()?;
+        let (Some(resources), Some(text)) = (&self.resources, finding.text) else {
+            return Ok(None);
+        };
+        meant_document(
+            self.alloc,
+            &mut self.suggester,
+            (self.given, resources),
+            finding.source,
+            (text, uri.as_str()),
+        )
+    }
+
+    // What to do where a document is missing.
+    fn help(&mut self, finding: &Finding<'_>) -> Result<Option<String>, AllocError> {
+        let Problem::MissingDocument { uri } = &finding.problem else {
+            return Ok(None);
+        };
+        if let Some(document) = self.given.documents.get(finding.source) {
+            if let Some(path) = beside(self.rt, document, uri.as_str())? {
+                return Ok(Some(["--with ", path.as_str()].join(self.alloc, "")?));
+            }
+        }
+        other_uri(self.alloc, &mut self.suggester, self.given, uri.as_str())
     }
 
     fn first(&self, number: usize, problem: &Problem<'_>) -> Result<Option<Other>, AllocError> {

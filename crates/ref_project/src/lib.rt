@@ -3,7 +3,9 @@
 //! file refers to which (`graph`). `bundle` is in `ref_bundle_files`, and `serve` in `patchsard`.
 #![tactic(auto)]
 
+mod beside;
 mod describe;
+mod documents;
 mod edges;
 mod follow;
 pub mod given;

@@ -38,7 +38,7 @@ pub fn lint(
     let read = read_given(rt, given)?;
     say_broken(rt, read.documents.get(read.own..).unwrap_or(&[]));
     let is_verbose = given.get_flag("verbose");
-    let listed = list_all(rt.alloc(), console, form_of(given), is_verbose, &read);
+    let listed = list_all(rt, console, form_of(given), is_verbose, &read);
     let has_failed = read.has_failed;
     let files = read.keep();
     let Some(count) = count_of(listed)? else {
@@ -78,14 +78,15 @@ fn print_time(rt: &HostRuntime, begin: io::Result<Instant>) {
 
 // Prints the findings of files.
 fn list_all(
-    alloc: Global,
+    rt: &HostRuntime,
     console: &mut Console<'_>,
     form: Form,
     is_verbose: bool,
     given: &Given,
 ) -> Result<Count, Stop> {
+    let alloc = rt.alloc();
     let report = given.report(alloc)?;
-    let mut describer = Describer::new(alloc, given, report.findings.as_slice(), is_verbose)?;
+    let mut describer = Describer::new(rt, given, report.findings.as_slice(), is_verbose)?;
     let mut count = Count {
         references: report.references,
         errors: 0,

@@ -1,8 +1,10 @@
 //! The resources of documents: what the pointers and anchors of references may mean, for suggestions.
+use crate::documents::tails;
 use crate::given::Given;
 use crate::world::without_fragment;
 use ref_draft::{Child, Draft, ResourceRef};
 use ref_index::shared;
+use ref_messages::Suggester;
 use ref_uri::uri::resolve_against;
 use ref_uri::{Uri, UriFault};
 use serde_json::Value;
@@ -25,6 +27,31 @@ pub struct Resources<'d> {
     alloc: Global,
     list: Vec<Resource<'d>>,
     numbers: BTreeMap<String, usize>,
+}
+
+impl Resource<'_> {
+    /// Whether an anchor has this name.
+    pub fn has_name(&self, name: &str) -> bool {
+        self.names.iter().any(|own| *own == name)
+    }
+}
+
+// How many letters the names of two URIs in one folder are apart, where they are few. The ends that both names have don't
+// count: a name of one or two letters before `.json` is close to any other.
+fn distance(
+    alloc: Global,
+    suggester: &mut Suggester,
+    wanted: &str,
+    uri: &str,
+) -> Result<Option<usize>, AllocError> {
+    let (name, other) = tails(wanted, uri);
+    if name.contains('/') || other.contains('/') {
+        return Ok(None);
+    }
+    match (name.strip_suffix(".json"), other.strip_suffix(".json")) {
+        (Some(name), Some(other)) => suggester.distance(alloc, name, other),
+        _ => suggester.distance(alloc, name, other),
+    }
 }
 
 // A schema that is to be visited.
@@ -58,6 +85,33 @@ impl<'d> Resources<'d> {
     /// The resource under a URI.
     pub fn get(&self, uri: &str) -> Option<&Resource<'d>> {
         self.list.get(*self.numbers.get(uri)?)
+    }
+
+    /// The URI whose name is the fewest letters away from that of another in the same folder, of several the first, or that
+    /// differs from the other in its cases alone.
+    pub fn close_uri(
+        &self,
+        alloc: Global,
+        suggester: &mut Suggester,
+        wanted: &str,
+    ) -> Result<Option<&str>, AllocError> {
+        let mut best: Option<&str> = None;
+        let mut least = usize::MAX;
+        for (uri, _) in &self.numbers {
+            if !suggester.step() {
+                break;
+            }
+            if uri.as_str().eq_ignore_ascii_case(wanted) {
+                return Ok(Some(uri.as_str()));
+            }
+            if let Some(edits) = distance(alloc, suggester, wanted, uri.as_str())? {
+                if edits < least {
+                    least = edits;
+                    best = Some(uri.as_str());
+                }
+            }
+        }
+        Ok(best)
     }
 
     // The number of the resource under a URI: where there is none yet, one that begins at a value.
