@@ -9,6 +9,8 @@ pub struct Node {
     pub name: String,
     /// Whether it isn't there.
     pub is_missing: bool,
+    /// Whether it is left out, since no reference leads from it or into it.
+    pub is_left_out: bool,
 }
 
 /// The references of one document that lead into another one, or into itself.
@@ -33,11 +35,29 @@ pub struct Graph {
     pub edges: Vec<Edge>,
 }
 
+impl Graph {
+    /// Leaves out the documents that no reference leads from or into.
+    pub fn leave_out_lone(&mut self) {
+        for node in &mut self.nodes {
+            node.is_left_out = true;
+        }
+        for edge in &self.edges {
+            for number in [edge.from, edge.to] {
+                if let Some(node) = self.nodes.get_mut(number) {
+                    node.is_left_out = false;
+                }
+            }
+        }
+    }
+}
+
 /// Adds a drawing in Mermaid's language, with what is broken in red.
 pub fn push_mermaid(out: &mut String, graph: &Graph) -> Result<(), AllocError> {
     out.push_str("flowchart LR\n")?;
     for number in 0..graph.nodes.len() {
-        push_mermaid_node(out, number, &graph.nodes[number])?;
+        if !graph.nodes[number].is_left_out {
+            push_mermaid_node(out, number, &graph.nodes[number])?;
+        }
     }
     for edge in &graph.edges {
         push_mermaid_edge(out, edge)?;
@@ -84,7 +104,9 @@ fn push_mermaid_colours(out: &mut String, graph: &Graph) -> Result<(), AllocErro
 pub fn push_dot(out: &mut String, graph: &Graph) -> Result<(), AllocError> {
     out.push_str("digraph references {\n    rankdir=LR;\n    node [shape=box];\n")?;
     for number in 0..graph.nodes.len() {
-        push_dot_node(out, number, &graph.nodes[number])?;
+        if !graph.nodes[number].is_left_out {
+            push_dot_node(out, number, &graph.nodes[number])?;
+        }
     }
     for edge in &graph.edges {
         push_dot_edge(out, edge)?;

@@ -11,13 +11,18 @@ use serde_json::Value;
 use std::alloc::{AllocError, Global};
 use std::collections::BTreeMap;
 
-/// The files and what was read from maps, with how many references lead from one into another, and how many of these are unresolvable.
-pub fn graph_of(rt: &HostRuntime, given: &Given) -> Result<Graph, Stop> {
+/// The files and what was read from maps, with how many references lead from one into another, and how many of these are unresolvable:
+/// all, or those that refer to one or are referred to.
+pub fn graph_of(rt: &HostRuntime, given: &Given, is_connected: bool) -> Result<Graph, Stop> {
     let alloc = rt.alloc();
     let list = given.findings(alloc)?;
     let faulty = faulty_of(alloc, given.len(), list.as_slice())?;
     let world = world_of(rt, given, faulty.as_slice())?;
-    Ok(drawn(alloc, given, &world, list.as_slice())?)
+    let mut graph = drawn(alloc, given, &world, list.as_slice())?;
+    if is_connected {
+        graph.leave_out_lone();
+    }
+    Ok(graph)
 }
 
 fn drawn(
@@ -184,6 +189,7 @@ fn push_node(
     nodes.push(Node {
         name: String::from_str(alloc, name)?,
         is_missing,
+        is_left_out: false,
     })?;
     Ok(())
 }

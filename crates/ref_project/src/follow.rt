@@ -20,30 +20,66 @@ pub struct Found<'w> {
     pub draft: Draft,
     /// The base URI there, and the dynamic scope.
     pub resolver: Resolver<'w>,
-    /// The URI that the reference means.
-    pub uri: Rc<Uri>,
+    /// The number of its document.
+    pub document: usize,
+    /// The pointer to it there.
+    pub pointer: String,
 }
 
-/// What a reference leads to from a place of the first document, or nothing where it leads into a document that isn't there.
+/// Where a reference leads that has no value to be shown.
+#[derive(Drop)]
+pub enum Outcome<'w> {
+    /// To a value.
+    Found(Found<'w>),
+    /// Into a document that isn't there, under this URI.
+    Missing(Rc<Uri>),
+    /// Into a document that was read, by its number, but is no JSON or has faults.
+    Broken(usize),
+    /// From a place that isn't there.
+    NoPlace,
+}
+
+/// What a reference leads to from a place of the first document, whose pointer is given. Of `is_sound` by its number a
+/// document counts for what it is, and else as broken.
 pub fn followed<'w>(
     alloc: Global,
     document: &Document,
     world: &'w World<'_>,
-    from: &str,
-    reference: &str,
-) -> Result<Option<Found<'w>>, Error> {
-    let base = base_of(alloc, document, world, from)?;
+    is_sound: &[bool],
+    (from, reference): (&str, &str),
+) -> Result<Outcome<'w>, Error> {
+    let Some(base) = base_of(alloc, document, world, from)? else {
+        return Ok(Outcome::NoPlace);
+    };
     let uri = world.registry.resolve_uri(alloc, base.borrow(), reference)?;
-    if !is_there(alloc, world, uri.as_str())? {
-        return Ok(None);
+    match number_of(alloc, world, uri.as_str())? {
+        None => Ok(Outcome::Missing(uri)),
+        Some(number) if !is_true(is_sound, number) => Ok(Outcome::Broken(number)),
+        Some(_) => Ok(Outcome::Found(looked_up(alloc, world, base, reference)?)),
     }
-    let (value, resolver, draft) = world.registry.lookup(alloc, base, reference)?.into_inner();
-    Ok(Some(Found {
+}
+
+fn is_true(flags: &[bool], number: usize) -> bool {
+    flags.get(number).copied().unwrap_or(true)
+}
+
+fn looked_up<'w>(
+    alloc: Global,
+    world: &'w World<'_>,
+    base: Uri,
+    reference: &str,
+) -> Result<Found<'w>, Error> {
+    let start = world.registry.resolver(alloc, base)?;
+    let (value, resolver, draft) = start.lookup(alloc, reference)?.into_inner();
+    let location = start.location(alloc, reference)?;
+    let pointer = location.pointer(alloc)?;
+    Ok(Found {
         value,
         draft,
         resolver,
-        uri,
-    }))
+        document: location.document,
+        pointer,
+    })
 }
 
 // The base URI at a place of the first document, whose pointer is given.
@@ -52,12 +88,10 @@ fn base_of(
     document: &Document,
     world: &World<'_>,
     from: &str,
-) -> Result<Uri, Error> {
+) -> Result<Option<Uri>, AllocError> {
     match path_to(alloc, document.value(), from)? {
-        Some(path) => Ok(base_at(alloc, &document.uri, world, path.as_slice())?),
-        None => Err(Error::PointerToNowhere {
-            pointer: String::from_str(alloc, from)?,
-        }),
+        Some(path) => Ok(Some(base_at(alloc, &document.uri, world, path.as_slice())?)),
+        None => Ok(None),
     }
 }
 
@@ -91,8 +125,11 @@ fn is_beginning(front: &[JsonPointerSegment<'_>], path: &[JsonPointerSegment<'_>
     true
 }
 
-// Whether a document that is there has a URI.
-fn is_there(alloc: Global, world: &World<'_>, uri: &str) -> Result<bool, AllocError> {
+// The number of the source of the document that is there and has a URI.
+fn number_of(alloc: Global, world: &World<'_>, uri: &str) -> Result<Option<usize>, AllocError> {
     let bearers = bearers(alloc, world)?;
-    Ok(bearers.contains_key(without_fragment(uri)))
+    match bearers.get(without_fragment(uri)) {
+        Some(document) => Ok(world.sources.get(*document).copied()),
+        None => Ok(None),
+    }
 }

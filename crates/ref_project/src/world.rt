@@ -203,18 +203,37 @@ fn first_of_each(alloc: Global, given: &Given) -> Result<Vec<usize>, AllocError>
     Ok(numbers)
 }
 
-/// The number of the document that has each URI: its own, and those of the places in it. Those in place of what isn't
-/// there are left out.
+/// The number of the document that has each URI: its own, and those of the places in it. Of several documents it is the
+/// last, as the registry has it. Those in place of what isn't there are left out.
 pub fn bearers(alloc: Global, world: &World<'_>) -> Result<BTreeMap<String, usize>, AllocError> {
     let places = world.places(alloc)?;
     let mut bearers = BTreeMap::new(alloc);
     for place in &places {
-        if place.document < world.sources.len() && !bearers.contains_key(place.base.as_str()) {
-            let uri = String::from_str(alloc, place.base.as_str())?;
-            bearers.insert(uri, place.document)?;
+        let number = place.document;
+        if number < world.sources.len() {
+            if place.path.is_empty() {
+                if let Some(document) = world.registry.documents().get(number) {
+                    set_bearer(alloc, &mut bearers, document.uri.as_str(), number)?;
+                }
+            }
+            set_bearer(alloc, &mut bearers, place.base.as_str(), number)?;
         }
     }
     Ok(bearers)
+}
+
+fn set_bearer(
+    alloc: Global,
+    bearers: &mut BTreeMap<String, usize>,
+    uri: &str,
+    number: usize,
+) -> Result<(), AllocError> {
+    if let Some(bearer) = bearers.get_mut(uri) {
+        *bearer = number;
+        return Ok(());
+    }
+    bearers.insert(String::from_str(alloc, uri)?, number)?;
+    Ok(())
 }
 
 /// A URI without its fragment.

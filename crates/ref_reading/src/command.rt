@@ -37,6 +37,7 @@ enum Word {
     Verbose,
     Format,
     Language,
+    Connected,
     Output,
     Minify,
     Base,
@@ -111,12 +112,9 @@ fn command_of<'c>(alloc: Global, subcommand: Subcommand) -> Result<Command<'c>, 
 
 // A subcommand without its words.
 fn described<'c>(alloc: Global, subcommand: Subcommand) -> Command<'c> {
-    let command = Command::new(alloc, name_of(subcommand)).about(about(subcommand));
-    let status = status_of(subcommand);
-    if status.is_empty() {
-        return command;
-    }
-    command.after_help(status)
+    Command::new(alloc, name_of(subcommand))
+        .about(about(subcommand))
+        .after_help(status_of(subcommand))
 }
 
 fn name_of<'c>(subcommand: Subcommand) -> &'c str {
@@ -152,13 +150,21 @@ fn status_of<'c>(subcommand: Subcommand) -> &'c str {
         Subcommand::Lint => {
             "Exit status: 0 where nothing is wrong, 1 where something is, 2 where a path can't be read or the command line is wrong."
         }
+        Subcommand::Resolve => {
+            "Exit status: 0 where the reference leads to a value, 1 where it doesn't, 2 where a path can't be read or the command line is wrong."
+        }
+        Subcommand::Places => {
+            "Exit status: 0 where all files are listed, 1 where one has faults, 2 where a path can't be read or the command line is wrong."
+        }
+        Subcommand::Graph => {
+            "Exit status: 0 where all files are drawn, 1 where one is no JSON, 2 where a path can't be read or the command line is wrong."
+        }
         Subcommand::Bundle => {
             "Exit status: 0 where the bundle is written, 1 where there is none, 2 where a path can't be read or written or the command line is wrong, 3 where the text that was made isn't that of the bundle."
         }
         Subcommand::Serve => {
             "docs/PROTOCOL.md describes the calls. Exit status: 0 where standard input ends, 2 where it can't be read, standard output can't be written, or the command line is wrong."
         }
-        _ => "",
     }
 }
 
@@ -206,6 +212,7 @@ fn words_of(subcommand: Subcommand) -> &'static [Word] {
             Word::Paths,
             Word::Exclude,
             Word::Language,
+            Word::Connected,
             Word::Base,
             Word::Draft,
             Word::Map,
@@ -326,6 +333,12 @@ fn row_of<'c>(word: Word) -> Row<'c> {
             "FORMAT",
             Kind::Value,
             "The language of the drawing",
+        ),
+        Word::Connected => named(
+            "connected",
+            "",
+            Kind::Flag,
+            "Leave out files that have no reference and are not referred to",
         ),
         Word::Output => named(
             "output",
