@@ -5,7 +5,7 @@ use ref_bundle::{Bundle, Embedded};
 use ref_draft::Draft;
 use ref_findings::{Finding, Problem};
 use ref_index::Place;
-use ref_messages::push_text;
+use ref_messages::{Level, Plain, push_text};
 use ref_parts::pointer_of;
 use ref_positions::splice::{Added, Part, with_added, with_parts};
 use ref_project::Describer;
@@ -120,7 +120,7 @@ impl<'s, 'a, 'd, 'w, 'o> Sources<'s, 'a, 'd, 'w, 'o> {
     }
 
     // Prints what is wrong with the documents that are needed, and returns whether that keeps them from being bundled:
-    // an unresolvable pointer or anchor doesn't.
+    // an unresolvable pointer or anchor does so by `--strict` alone, and is a warning without it.
     fn has_faults(&self, needed: &[bool]) -> Result<bool, AllocError> {
         let mut describer = Describer::new(self.rt, self.read, self.list, false)?;
         let is_faulty = self.say_faults(&mut describer, needed);
@@ -133,13 +133,19 @@ impl<'s, 'a, 'd, 'w, 'o> Sources<'s, 'a, 'd, 'w, 'o> {
         describer: &mut Describer<'_, '_>,
         needed: &[bool],
     ) -> Result<bool, AllocError> {
+        let is_strict = self.given.get_flag("strict");
         let mut out = String::new(self.rt.alloc());
         let mut is_faulty = false;
         for place in 0..describer.len() {
             if let Some(finding) = describer.finding(place) {
                 if concerns(finding, needed) {
-                    is_faulty |= is_fault(finding);
-                    push_message(&mut out, describer, place)?;
+                    let level = if is_strict || is_fault(finding) {
+                        Level::Error
+                    } else {
+                        Level::Warning
+                    };
+                    is_faulty |= is_strict || is_fault(finding);
+                    push_message(&mut out, describer, place, level)?;
                 }
             }
         }
@@ -208,7 +214,9 @@ impl<'s, 'a, 'd, 'w, 'o> Sources<'s, 'a, 'd, 'w, 'o> {
         let at = self.place_in(number, place.path.as_slice())?;
         let pointer = pointer_of(self.rt.alloc(), place.path.as_slice())?;
         let _ = eprintln!(self.rt;
-            "{at}: error: {why}\n    {keyword} '{text}' at '{pointer}'\n    help: {help}"
+            "{at}: error: {why}\n    {keyword} '{}' at '{}'\n    help: {help}",
+            Plain(text),
+            Plain(pointer.as_str())
         );
         Ok(())
     }
@@ -275,17 +283,42 @@ impl<'s, 'a, 'd, 'w, 'o> Sources<'s, 'a, 'd, 'w, 'o> {
 
     // The text of a bundle, or nothing where what was made has another value.
     fn text(&self, bundle: &Bundle) -> Result<Option<String>, Stop> {
+        let Some(schema) = self.missing_schema(bundle) else {
+            return self.text_with(bundle, &bundle.value, None);
+        };
+        let value = with_schema(self.rt.alloc(), &bundle.value, schema)?;
+        let text = self.text_with(bundle, &value, Some(schema));
+        drop(value);
+        text
+    }
+
+    // The `$schema` that the root gets, so that a reader takes it for what it is: where it has none and isn't of the draft
+    // that a reader takes it for.
+    fn missing_schema(&self, bundle: &Bundle) -> Option<&'static str> {
+        if bundle.value.as_object()?.contains_key("$schema") {
+            return None;
+        }
+        schema_of(self.draft(0))
+    }
+
+    // The text of a bundle whose root gets a `$schema`, and then has a value.
+    fn text_with(
+        &self,
+        bundle: &Bundle,
+        value: &Value,
+        schema: Option<&str>,
+    ) -> Result<Option<String>, Stop> {
         let text = if self.given.get_flag("minify") {
-            Some(minified(self.rt.alloc(), &bundle.value)?)
+            Some(minified(self.rt.alloc(), value)?)
         } else {
-            self.spliced(bundle)?
+            self.spliced(bundle, schema)?
         };
         let Some(text) = text else {
             let why = "the text of a document can't be read again; nothing is written";
             say(self.rt, why);
             return Ok(None);
         };
-        if self.is_text_of(text.as_str(), &bundle.value)? {
+        if self.is_text_of(text.as_str(), value)? {
             return Ok(Some(text));
         }
         Ok(None)
@@ -313,14 +346,25 @@ impl<'s, 'a, 'd, 'w, 'o> Sources<'s, 'a, 'd, 'w, 'o> {
         }
     }
 
-    // The text of the root with those of the documents that are embedded.
-    fn spliced(&self, bundle: &Bundle) -> Result<Option<String>, Stop> {
-        let alloc = self.rt.alloc();
+    // The text of the root, with a `$schema` where it gets one, with those of the documents that are embedded.
+    fn spliced(&self, bundle: &Bundle, schema: Option<&str>) -> Result<Option<String>, Stop> {
         let Some(root) = self.read.documents.first() else {
             return Ok(None);
         };
+        match schema {
+            Some(schema) => match root_with(self.rt.alloc(), root.text.as_str(), schema)? {
+                Some(root) => self.with_embedded(bundle, root.as_str()),
+                None => Ok(None),
+            },
+            None => self.with_embedded(bundle, root.text.as_str()),
+        }
+    }
+
+    // The root's text with those of the documents that are embedded.
+    fn with_embedded(&self, bundle: &Bundle, root: &str) -> Result<Option<String>, Stop> {
+        let alloc = self.rt.alloc();
         if bundle.embedded.is_empty() {
-            return Ok(Some(root.text.clone()?));
+            return Ok(Some(String::from_str(alloc, root)?));
         }
         let mut parts = Vec::new(alloc);
         for embedded in &bundle.embedded {
@@ -330,7 +374,7 @@ impl<'s, 'a, 'd, 'w, 'o> Sources<'s, 'a, 'd, 'w, 'o> {
             }
         }
         let keyword = definitions(self.draft(0));
-        Ok(with_parts(alloc, root.text.as_str(), keyword, parts.as_slice())?)
+        Ok(with_parts(alloc, root, keyword, parts.as_slice())?)
     }
 
     fn draft(&self, document: usize) -> Draft {
@@ -389,14 +433,16 @@ impl<'s, 'a, 'd, 'w, 'o> Sources<'s, 'a, 'd, 'w, 'o> {
     }
 }
 
-// Adds the message on the finding at a place.
+// Adds the message on the finding at a place, with a level.
 fn push_message(
     out: &mut String,
     describer: &mut Describer<'_, '_>,
     place: usize,
+    level: Level,
 ) -> Result<(), AllocError> {
     match describer.message(place)? {
-        Some(message) => {
+        Some(mut message) => {
+            message.level = level;
             let pushed = push_text(out, &message);
             drop(message);
             pushed
@@ -404,6 +450,45 @@ fn push_message(
         None => Ok(()),
     }
 }
+
+// The value of a root with a `$schema` in it.
+fn with_schema(alloc: Global, value: &Value, schema: &str) -> Result<Value, AllocError> {
+    let mut made = value.clone()?;
+    if let Some(members) = made.as_object_mut() {
+        let key = String::from_str(alloc, "$schema")?;
+        let schema = String::from_str(alloc, schema)?;
+        members.insert(key, Value::String(schema))?;
+    }
+    Ok(made)
+}
+
+// The text of a root with a `$schema` at its beginning. What is around its braces stays.
+fn root_with(alloc: Global, text: &str, schema: &str) -> Result<Option<String>, AllocError> {
+    let body = text.trim();
+    let added = Added {
+        keyword: "$schema",
+        id: None,
+        schema: Some(schema),
+    };
+    let Some(made) = with_added(alloc, body, added)? else {
+        return Ok(None);
+    };
+    let (front, _) = text.split_once('{').unwrap_or(("", text));
+    let (_, end) = text.rsplit_once('}').unwrap_or((text, ""));
+    Ok(Some([front, made.as_str(), end].join(alloc, "")?))
+}
+
+// The `$schema` of a draft, but for the one that a reader takes a document for that has none.
+fn schema_of(draft: Draft) -> Option<&'static str> {
+    match draft {
+        Draft::Draft4 => Some("http://json-schema.org/draft-04/schema#"),
+        Draft::Draft6 => Some("http://json-schema.org/draft-06/schema#"),
+        Draft::Draft7 => Some("http://json-schema.org/draft-07/schema#"),
+        Draft::Draft201909 => Some("https://json-schema.org/draft/2019-09/schema"),
+        _ => None,
+    }
+}
+
 
 // A value on a line.
 fn minified(alloc: Global, value: &Value) -> Result<String, AllocError> {

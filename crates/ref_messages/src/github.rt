@@ -22,6 +22,7 @@ pub fn push_annotation(out: &mut String, message: &Message<'_>) -> Result<(), Al
 fn push_place(out: &mut String, message: &Message<'_>) -> Result<(), AllocError> {
     out.push_str(match message.level {
         Level::Error => "::error file=",
+        Level::Warning => "::warning file=",
         Level::Note => "::notice file=",
     })?;
     push_property(out, message.file)?;

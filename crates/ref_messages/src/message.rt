@@ -5,6 +5,8 @@
 pub enum Level {
     /// Something is wrong.
     Error,
+    /// Something is wrong that needn't be.
+    Warning,
     /// Something is worth knowing.
     Note,
 }
@@ -14,6 +16,7 @@ impl Level {
     pub fn name(self) -> &'static str {
         match self {
             Level::Error => "error",
+            Level::Warning => "warning",
             Level::Note => "note",
         }
     }

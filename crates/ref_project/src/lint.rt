@@ -181,7 +181,7 @@ impl Count {
     fn add(&mut self, level: Level) {
         match level {
             Level::Error => self.errors = self.errors.saturating_add(1),
-            Level::Note => self.notes = self.notes.saturating_add(1),
+            Level::Warning | Level::Note => self.notes = self.notes.saturating_add(1),
         }
     }
 }

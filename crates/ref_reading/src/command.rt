@@ -40,6 +40,7 @@ enum Word {
     Connected,
     Output,
     Minify,
+    Strict,
     Base,
     Draft,
     Map,
@@ -197,6 +198,7 @@ fn words_of(subcommand: Subcommand) -> &'static [Word] {
             Word::With,
             Word::Output,
             Word::Minify,
+            Word::Strict,
             Word::Base,
             Word::Draft,
             Word::Map,
@@ -339,6 +341,12 @@ fn row_of<'c>(word: Word) -> Row<'c> {
             "",
             Kind::Flag,
             "Leave out files that have no reference and are not referred to",
+        ),
+        Word::Strict => named(
+            "strict",
+            "",
+            Kind::Flag,
+            "Refuse a bundle with an unresolvable pointer or anchor, and write nothing",
         ),
         Word::Output => named(
             "output",
