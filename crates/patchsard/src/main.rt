@@ -23,12 +23,29 @@ fn main(rt: HostRuntime) -> ExitCode {
 // The words of the command line.
 fn words_of(rt: &HostRuntime) -> Result<Vec<String>, Stop> {
     match env::args(rt) {
-        Ok(words) => Ok(words.collect(rt.alloc())?),
+        Ok(words) => Ok(without_help_of_help(words.collect(rt.alloc())?)),
         Err(error) if error.kind() == io::ErrorKind::OutOfMemory => Err(Stop::Memory),
         Err(_) => {
             say(rt, "an argument is not UTF-8");
             Err(Stop::Reported)
         }
+    }
+}
+
+// The words without one after `help` that asks for the help of it.
+fn without_help_of_help(mut words: Vec<String>) -> Vec<String> {
+    if asks_for_help_of_help(words.as_slice()) {
+        words.truncate(2);
+    }
+    words
+}
+
+fn asks_for_help_of_help(words: &[String]) -> bool {
+    match words {
+        [_, first, second] => {
+            first.as_str() == "help" && matches!(second.as_str(), "help" | "--help" | "-h")
+        }
+        _ => false,
     }
 }
 

@@ -88,6 +88,7 @@ pub fn patchsard<'c>(alloc: Global) -> Result<Command<'c>, AllocError> {
 fn without_subcommands<'c>(alloc: Global) -> Result<Command<'c>, AllocError> {
     Command::new(alloc, "patchsard")
         .version("0.1.0")
+        .propagate_version(true)
         .about("Lints, follows, bundles, lists and draws the references of JSON Schema files")
         .arg_required_else_help(true)
         .bin_name("patchsard")?
