@@ -105,8 +105,8 @@ impl<'s, 'a, 'd, 'w, 'o> Sources<'s, 'a, 'd, 'w, 'o> {
         };
         self.say_uri(bundle);
         match self.given.get_str("output") {
-            Some(path) => write_file(self.rt, path, text.as_str()),
-            None => {
+            Some(path) if !is_output(path) => write_file(self.rt, path, text.as_str()),
+            _ => {
                 console.out.push_str(text.as_str())?;
                 Ok(0)
             }
@@ -489,6 +489,10 @@ fn schema_of(draft: Draft) -> Option<&'static str> {
     }
 }
 
+// Whether a path means standard output.
+fn is_output(path: &str) -> bool {
+    matches!(path, "-" | "/dev/stdout" | "/dev/fd/1" | "/proc/self/fd/1")
+}
 
 // A value on a line.
 fn minified(alloc: Global, value: &Value) -> Result<String, AllocError> {

@@ -26,6 +26,14 @@ pub fn write_file(rt: &HostRuntime, path: &str, text: &str) -> Result<u8, Stop> 
 
 // Says why a file can't be written.
 fn refused(rt: &HostRuntime, path: &str, error: io::Error) -> u8 {
+    if error.kind() == io::ErrorKind::InvalidInput {
+        say_of(
+            rt,
+            path,
+            "not a regular file; without -o a bundle goes to standard output",
+        );
+        return 2;
+    }
     say_of(rt, path, error);
     if error.kind() == io::ErrorKind::AlreadyExists {
         let _ = eprintln!(rt; "    help: remove it, unless another run is writing it");
