@@ -1,5 +1,5 @@
 //! The registries that are open.
-ghost use Rattle.std.specs.Prelude.{◌≡◌, ◌<◌, ◌+◌, ◌^◌, ◌++◌, [], None, IfOk, OnOk, OnErr, option_map, length};
+ghost use Rattle.std.specs.Prelude.{◌≡◌, ◌<◌, ◌+◌, ◌^◌, ◌++◌, [], None, Some, Ok, IfSome, IfOk, OnOk, OnErr, option_map, length};
 ghost use Rattle.ref_serve.specs.State as spec;
 
 use referencing::Registry;
@@ -62,14 +62,30 @@ impl Open {
         ensures value { IfOk result (λ r. r.now ≡ self.old.0) }
         ensures same { self.new ≡ self.old }
     {
-        if let Some(lent) = self.lent {
-            return Ok(lent);
-        }
-        let copy = self.registry.clone()?;
-        let lent: &'static Registry<'static> = Box::leak(Box::new(alloc, copy)?);
-        self.lent = Some(lent);
-        Ok(lent)
+        lent_of(alloc, &self.registry, &mut self.lent)
     }
+}
+
+// The registry for the rest of the program: the one that was lent before, or else a copy of its handles, which is kept to
+// be lent again. So no registry is lent twice.
+fn lent_of(
+    alloc: Global,
+    registry: &Registry<'static>,
+    lent: &mut Option<&'static Registry<'static>>,
+) -> Result<&'static Registry<'static>, AllocError>
+    requires { IfSome lent.old (λ r. r.now ≡ registry.now) }
+    ensures value { IfOk result (λ r. r.now ≡ registry.now) }
+    ensures again { IfSome lent.old (λ r. result ≡ Ok r) }
+    ensures kept { IfOk result (λ r. lent.new ≡ Some r) }
+    ensures refused { OnErr result (lent.new ≡ lent.old) }
+{
+    if let Some(before) = *lent {
+        return Ok(before);
+    }
+    let copy = registry.clone()?;
+    let made: &'static Registry<'static> = Box::leak(Box::new(alloc, copy)?);
+    *lent = Some(made);
+    Ok(made)
 }
 
 /// The registries by their numbers; in the place of a closed one there is none. Contracts see that list.
