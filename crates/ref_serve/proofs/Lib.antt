@@ -6,3 +6,4 @@ pub mod KnownVocabularies
 pub mod Replying
 pub mod Steps
 pub mod OpeningReads
+pub mod OnLiterals

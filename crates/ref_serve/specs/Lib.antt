@@ -1,5 +1,6 @@
 pub mod Codes
 pub mod State
+pub mod Rows
 pub mod Results
 pub mod Opening
 pub mod Listings

@@ -8,6 +8,7 @@ mod answer;
 mod asked;
 mod bundling;
 mod entering;
+pub mod examples;
 mod following;
 mod listing;
 mod looking;

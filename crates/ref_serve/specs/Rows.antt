@@ -1,0 +1,15 @@
+-- Literal registries and calls for rows that compute.
+use Prim.Native.String.{String as Literal}
+use Rattle.std.specs.Prelude.{[], ◌∷◌, Some, None}
+use Rattle.serde_json.specs.Data.{Data}
+use Rattle.ref_draft.specs.declared.draft.Draft.TheVariants.{Draft202012}
+use Rattle.ref_definitions.specs.Rows.{at}
+use Rattle.ref_serve.specs.State.{OpenRegistry, Registries}
+
+-- an open registry of one document of 2020-12 without parents
+abbrev pub registry : Literal → Data → OpenRegistry
+registry uri tree = ((at Draft202012 uri tree ∷ []) ∷ [], [])
+
+-- that registry under the number 0, and a closed one under 1
+abbrev pub opened : Literal → Data → Registries
+opened uri tree = Some (registry uri tree) ∷ None ∷ []
