@@ -24,3 +24,4 @@ pub mod LawLookups
 pub mod LawEmbeds
 pub mod LawOrder
 pub mod Pairs
+pub mod LawReader

@@ -6,7 +6,8 @@ use Rattle.serde_json.specs.Data.{Data, object}
 use Rattle.serde_json.specs.Find.{get}
 use Rattle.ref_paths.specs.Path.{Part, Key}
 use Rattle.ref_parts.specs.Pointer.{unescape, tokens}
-use Rattle.ref_draft.specs.Schema.{text_under, identifier}
+use Rattle.ref_draft.specs.declared.draft.Draft.{Draft}
+use Rattle.ref_draft.specs.Schema.{text_under, identifier, detect}
 use Rattle.ref_draft.specs.Children.{InKeyOrder, with_draft}
 use Rattle.ref_uri.specs.Targets.{target, fragment_part}
 use Rattle.ref_definitions.specs.World.{Document, Layer, World}
@@ -199,3 +200,11 @@ EmbedWhatIsNeeded =
     (layer : Layer) (parents : World) (number : ℕ) (top : Document) (bundle : Bundle)
     → IsBundle layer parents number top bundle
     → EmbedsNeeded layer number top bundle
+
+-- A reader of any draft reads a bundle by the draft by which it reads the root: that of the root's `$schema`, or its own
+-- where the root has none (2020-12 Core, 8.1.1).
+abbrev pub AreReadAsTheirRoots : Type 0
+AreReadAsTheirRoots =
+    (layer : Layer) (parents : World) (number : ℕ) (top : Document) (bundle : Bundle)
+    → IsBundle layer parents number top bundle
+    → (reader : Draft) → detect reader bundle.value ≡ detect reader top.tree

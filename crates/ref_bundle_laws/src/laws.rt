@@ -5,7 +5,7 @@ ghost use Rattle.ref_definitions.specs.Rows.{yes, text, empty, one, two};
 ghost use Rattle.ref_bundle_laws.specs.Rows.{new, refers_to, refers_to_s, with_definition, listed_as};
 ghost use Rattle.ref_bundle_laws.specs.KeptRows.{value, fault, both, alike};
 ghost use Rattle.ref_bundle_laws.specs.Kept.{IsBundle, HaveMergedPlaces, HaveNoFault, HaveNoOpenWant};
-ghost use Rattle.ref_bundle_laws.specs.Kept.{KeepsReferences, EmbedWhatIsNeeded};
+ghost use Rattle.ref_bundle_laws.specs.Kept.{KeepsReferences, EmbedWhatIsNeeded, AreReadAsTheirRoots};
 
 /// The places of a bundle are those of the root and of each embedded document, merged, each document's in their order. The
 /// roots have what was added. The paths of the other places of an embedded document go on from that of its root; their values,
@@ -34,6 +34,13 @@ pub fn bundles_keep_references()
 /// bundle.
 pub fn bundles_embed_what_is_needed()
     ensures law { EmbedWhatIsNeeded }
+{}
+
+/// A reader reads a bundle by the draft by which it reads the root: that of the root's `$schema`, or its own where the root has
+/// none. So the other laws, which speak of the root's draft, hold for each reader where the root's `$schema` names that draft, and
+/// else for a reader that is told it.
+pub fn bundles_are_read_as_their_roots()
+    ensures law { AreReadAsTheirRoots }
 {}
 
 /// A bundle of two documents, and look-ups in bundles, beside those among the documents: below an embedded root and of it as
