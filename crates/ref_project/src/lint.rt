@@ -51,7 +51,7 @@ pub fn lint(
     };
     summary(rt, files, count)?;
     print_time(rt, begin);
-    let is_looked_at = files > count.unread;
+    let is_looked_at = files > count.unread || count.references > 0;
     if !is_looked_at && !has_failed {
         say_nothing(rt, files);
     }
