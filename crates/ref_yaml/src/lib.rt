@@ -1,0 +1,27 @@
+//! YAML 1.2 of one document, as the tree that JSON has: events with their offsets, and the value that they make.
+#![tactic(auto)]
+
+mod block;
+mod block_scalar;
+mod build;
+mod bytes;
+mod core_schema;
+mod cursor;
+mod document;
+mod event;
+mod expand;
+mod fault;
+mod flow;
+mod links;
+mod number;
+mod parser;
+mod quoted;
+mod scalar;
+mod scan;
+#[cfg(test)]
+mod tests;
+mod text;
+
+pub use document::{Document, from_str};
+pub use event::{Event, Kind, Tag};
+pub use fault::{Fault, Leniency, Stop};
