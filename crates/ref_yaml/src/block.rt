@@ -74,16 +74,25 @@ impl Parser<'_> {
                 return self.push_empty(node.own);
             }
             node = self.next_line(node.own)?;
+            if !self.is_inside(place) {
+                return self.push_empty(node.outer);
+            }
         }
         self.content(place, node, depth)
     }
 
-    // The value whose properties end a line.
-    fn next_line(&mut self, outer: Properties) -> Result<Node, Stop> {
-        let start = self.here;
-        let own = self.properties(start.at)?;
+    // The value whose properties end a line. They may be on two lines.
+    fn next_line(&mut self, first: Properties) -> Result<Node, Stop> {
+        let mut outer = first;
+        let mut start = self.here;
+        let mut own = self.properties(start.at)?;
         if own.are_some() && self.is_line_over() {
-            return self.fault(Fault::Properties);
+            outer = first.and(own)?;
+            start = self.here;
+            own = self.properties(start.at)?;
+            if own.are_some() && self.is_line_over() {
+                return self.fault(Fault::Properties);
+            }
         }
         Ok(Node { start, outer, own })
     }

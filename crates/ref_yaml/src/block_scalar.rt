@@ -89,6 +89,12 @@ fn body_end(text: &str, body: usize, indent: usize) -> usize {
     line
 }
 
+// Whether a line has nothing but white space with a tab.
+fn is_tab_line(text: &str, line: usize) -> bool {
+    let at = after_white(text, line);
+    is_line_end(text, at) && at != after_spaces(text, line)
+}
+
 // The literal or folded text at an offset, whose lines are indented by so many spaces at least.
 pub(crate) fn block_scalar(text: &str, start: usize, floor: usize) -> Result<Event, Stop> {
     let Some(header) = header_at(text, start) else {
@@ -107,7 +113,11 @@ pub(crate) fn block_scalar(text: &str, start: usize, floor: usize) -> Result<Eve
     } else {
         Kind::Folded
     };
-    let mut event = Event::new(kind, start, body_end(text, header.body, spaces));
+    let end = body_end(text, header.body, spaces);
+    if is_tab_line(text, end) {
+        return Err(Stop::At(Fault::Tab, end));
+    }
+    let mut event = Event::new(kind, start, end);
     event.link = spaces;
     Ok(event)
 }

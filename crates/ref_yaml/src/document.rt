@@ -150,14 +150,6 @@ impl Parser<'_> {
         if self.is_at_end() {
             return Ok(());
         }
-        if self.byte() == b'.' && self.here.is_marker(self.text) {
-            return self.end_of_stream_again();
-        }
-        self.fault(Fault::Document)
-    }
-
-    // After one end of the document there may be more.
-    fn end_of_stream_again(&mut self) -> Result<(), Stop> {
         self.fault(Fault::Document)
     }
 }

@@ -2,7 +2,7 @@
 
 /// A part of a text: a scalar, an alias, or the beginning or the end of a list or an object. In an object each key is
 /// followed by its value.
-#[derive(Clone, Copy, Debug, Drop)]
+#[derive(Clone, Copy, Drop)]
 pub struct Event {
     /// What it is.
     pub kind: Kind,
@@ -22,7 +22,7 @@ pub struct Event {
 }
 
 /// What an event is.
-#[derive(Clone, Copy, Debug, Drop, PartialEq, Eq)]
+#[derive(Clone, Copy, Drop, PartialEq, Eq)]
 pub enum Kind {
     /// A list begins.
     BeginArray,
@@ -47,7 +47,7 @@ pub enum Kind {
 }
 
 /// A tag of the core schema (10.3).
-#[derive(Clone, Copy, Debug, Drop, PartialEq, Eq)]
+#[derive(Clone, Copy, Drop, PartialEq, Eq)]
 pub enum Tag {
     /// None.
     None,
@@ -95,11 +95,6 @@ impl Event {
             self.kind,
             Kind::BeginArray | Kind::EndArray | Kind::BeginObject | Kind::EndObject
         )
-    }
-
-    // Whether a list or an object ends.
-    pub(crate) fn is_end(&self) -> bool {
-        matches!(self.kind, Kind::EndArray | Kind::EndObject)
     }
 
     // Whether a colon after it needs no space (7.4.2).

@@ -2,7 +2,7 @@
 use std::alloc::{AllocError, AllocFailed};
 
 /// Why there is no result: memory, or what is wrong in the text, and its offset in bytes.
-#[derive(Clone, Copy, Debug, Drop, PartialEq, Eq)]
+#[derive(Clone, Copy, Drop)]
 pub enum Stop {
     /// Memory ran out.
     Memory,
@@ -11,7 +11,7 @@ pub enum Stop {
 }
 
 /// What is wrong in a text. The numbers are sections of YAML 1.2.2.
-#[derive(Clone, Copy, Debug, Drop, PartialEq, Eq)]
+#[derive(Clone, Copy, Debug, Drop)]
 pub enum Fault {
     /// A control character (5.1).
     Character,
@@ -64,7 +64,7 @@ pub enum Fault {
 }
 
 /// What is read though YAML 1.2 doesn't have it.
-#[derive(Clone, Copy, Debug, Drop, PartialEq, Eq)]
+#[derive(Clone, Copy, Drop)]
 pub enum Leniency {
     /// A closing bracket at the column of what it is in, at this offset.
     Bracket(usize),

@@ -18,8 +18,6 @@ mod parser;
 mod quoted;
 mod scalar;
 mod scan;
-#[cfg(test)]
-mod tests;
 mod text;
 
 pub use document::{Document, from_str};

@@ -35,6 +35,14 @@ fn means(names: &BTreeMap<&str, usize>, text: &str, alias: &Event) -> Result<usi
     }
 }
 
+// Whether what begins at one index ends after another.
+fn holds(events: &[Event], target: usize, index: usize) -> bool {
+    match events.get(target) {
+        Some(event) => !event.is_leaf() && event.link > index,
+        None => false,
+    }
+}
+
 /// Gives each alias the index of the event that it means.
 ///
 /// A fault where none is before it that has its anchor, or that one holds it. A step for each event, and a look-up for
@@ -48,7 +56,7 @@ pub(crate) fn link(alloc: Global, text: &str, events: &mut [Event]) -> Result<()
         }
         if event.kind == Kind::Alias {
             let target = means(&names, text, &event)?;
-            if !events[target].is_leaf() && events[target].link > index {
+            if holds(events, target, index) {
                 return Err(Stop::At(Fault::Cycle, event.start));
             }
             events[index].link = target;

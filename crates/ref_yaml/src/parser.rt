@@ -37,6 +37,25 @@ impl Properties {
         self.anchor != NOWHERE || self.tag != Tag::None
     }
 
+    // These and others, which have the anchor or the tag that these lack.
+    pub(crate) fn and(&self, others: Properties) -> Result<Properties, Stop> {
+        if self.anchor != NOWHERE && others.anchor != NOWHERE {
+            return Err(Stop::At(Fault::Properties, others.anchor));
+        }
+        if self.tag != Tag::None && others.tag != Tag::None {
+            return Err(Stop::At(Fault::Properties, others.end));
+        }
+        Ok(Properties {
+            anchor: self.anchor.min(others.anchor),
+            tag: if self.tag == Tag::None {
+                others.tag
+            } else {
+                self.tag
+            },
+            end: others.end,
+        })
+    }
+
     // An event with these.
     pub(crate) fn with(&self, event: Event) -> Event {
         let mut owner = event;

@@ -1,6 +1,6 @@
 //! The texts that scalars are: line folding (6.5), escapes (5.7), and chomping (8.1.1).
 use crate::block_scalar::header_at;
-use crate::bytes::{after_break, after_white, is_break, is_white, line_end, peek};
+use crate::bytes::{after_break, after_white, is_white, line_end, peek};
 use crate::event::{Event, Kind};
 use crate::fault::{Fault, Stop};
 use std::alloc::{AllocError, Global};
@@ -142,7 +142,7 @@ fn folded(alloc: Global, source: &str, style: Style, start: usize) -> Result<Str
         if is_last {
             break;
         }
-        if is_joined && breaks == 0 && to > from {} else {
+        if !is_joined || to == from {
             breaks = breaks.saturating_add(1);
         }
         line = after_break(source, end);
@@ -330,15 +330,8 @@ fn push_block(
             breaks = 0;
             was_white = is_white;
         }
-        if end < source.len() || content.is_empty() {
-            breaks = breaks.saturating_add(1);
-        }
+        breaks = breaks.saturating_add(1);
         line = after_break(source, end);
     }
     Ok(breaks)
-}
-
-// Whether a text of a style is what it stands for.
-pub(crate) fn is_plain(source: &str) -> bool {
-    !source.bytes().any(|byte| is_break(byte))
 }
