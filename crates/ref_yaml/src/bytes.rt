@@ -1,11 +1,15 @@
 //! The bytes of a text, and where runs of them end.
+ghost use Rattle.std.specs.Prelude.{◌≡◌};
+ghost use Rattle.ref_yaml.specs.Flow.{is_white};
 
 // The byte at an offset, or 0 at the end.
 pub(crate) fn peek(text: &str, at: usize) -> u8 {
     text.as_bytes().get(at).copied().unwrap_or(0)
 }
 
-pub(crate) fn is_white(byte: u8) -> bool {
+pub(crate) fn is_white(byte: u8) -> bool
+    ensures value { result ≡ is_white byte }
+{
     matches!(byte, b' ' | b'\t')
 }
 

@@ -1,0 +1,4 @@
+pub mod Flow
+pub mod Block
+pub mod Escapes
+pub mod Passing
