@@ -2,3 +2,4 @@ pub mod Flow
 pub mod Block
 pub mod Escapes
 pub mod Passing
+pub mod Scalars

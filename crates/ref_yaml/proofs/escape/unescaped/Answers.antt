@@ -12,4 +12,4 @@ loop-byte-preserved c =
     let h : at < length source = omega arith in
     let d : drop at source ≡ get_or source at 0 ∷ drop (at + 1) source = rw (add-one, drop-cons source at 0) in
     passed (reading_of c.loop-byte.reading) (reading_of c.in-Some.next) (get_or source at 0) (drop (at + 1) source) c.loop-byte.out.items c.pass_byte.new.out.items v.0
-        (unescaped source) v.1 v.2 (rw d at c.loop-byte.invariant)
+    (unescaped source) v.1 v.2 (rw d at c.loop-byte.invariant)
