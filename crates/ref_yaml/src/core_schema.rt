@@ -1,20 +1,38 @@
 //! What a plain scalar is by the core schema (10.3.2).
+ghost use Rattle.std.specs.Prelude.{◌≡◌, ◌↔◌, Bool, true, false, Some, IsTrue, IfOk, IfSome, Contains, string_bytes};
+ghost use Rattle.serde_json.specs.Data.{null, boolean, string};
+ghost use Rattle.serde_json.specs.Read.{read};
+ghost use Rattle.serde_json.specs.View.{view};
+ghost use Rattle.ref_yaml.specs.Core.{nothing_words, null_words, true_words, false_words};
+
 use crate::event::{Event, Tag};
 use crate::fault::{Fault, Stop};
 use crate::number::{in_radix, parts_of};
 use serde_json::Value;
 use std::alloc::{AllocError, Global};
 
-fn is_null(text: &str) -> bool {
-    matches!(text, "" | "~" | "null" | "Null" | "NULL")
+fn is_nothing(text: &str) -> bool
+    ensures value { IsTrue result ↔ Contains nothing_words text.now }
+{
+    text.is_empty() || text == "~"
 }
 
-fn boolean(text: &str) -> Option<bool> {
-    match text {
-        "true" | "True" | "TRUE" => Some(true),
-        "false" | "False" | "FALSE" => Some(false),
-        _ => None,
-    }
+fn is_null(text: &str) -> bool
+    ensures value { IsTrue result ↔ Contains null_words text.now }
+{
+    text == "null" || text == "Null" || text == "NULL"
+}
+
+fn is_true(text: &str) -> bool
+    ensures value { IsTrue result ↔ Contains true_words text.now }
+{
+    text == "true" || text == "True" || text == "TRUE"
+}
+
+fn is_false(text: &str) -> bool
+    ensures value { IsTrue result ↔ Contains false_words text.now }
+{
+    text == "false" || text == "False" || text == "FALSE"
 }
 
 // Whether a text is an infinite number, or no number.
@@ -27,7 +45,9 @@ fn is_infinite(text: &str) -> bool {
 }
 
 // The number that a text of JSON writes.
-fn json_number(alloc: Global, text: &str, at: usize) -> Result<Value, Stop> {
+fn json_number(alloc: Global, text: &str, at: usize) -> Result<Value, Stop>
+    ensures value { IfOk result (λ v. read text.now ≡ Some (view v)) }
+{
     match Value::from_str(alloc, text) {
         Ok(value) => Ok(value),
         Err(error) => {
@@ -59,17 +79,27 @@ fn number(alloc: Global, text: &str, at: usize) -> Result<Option<Value>, Stop> {
     }
 }
 
-fn text_value(alloc: Global, text: &str) -> Result<Value, AllocError> {
+fn text_value(alloc: Global, text: &str) -> Result<Value, AllocError>
+    ensures value { IfOk result (λ v. view v ≡ string text.now) }
+{
     Ok(Value::String(String::from_str(alloc, text)?))
 }
 
 // What a plain text at an offset is.
-pub(crate) fn plain_value(alloc: Global, text: &str, at: usize) -> Result<Value, Stop> {
-    if is_null(text) {
+pub(crate) fn plain_value(alloc: Global, text: &str, at: usize) -> Result<Value, Stop>
+    ensures nothing { IfOk result (λ v. Contains nothing_words text.now → view v ≡ null) }
+    ensures null { IfOk result (λ v. Contains null_words text.now → view v ≡ null) }
+    ensures is_true { IfOk result (λ v. Contains true_words text.now → view v ≡ boolean true) }
+    ensures is_false { IfOk result (λ v. Contains false_words text.now → view v ≡ boolean false) }
+{
+    if is_nothing(text) || is_null(text) {
         return Ok(Value::Null);
     }
-    if let Some(value) = boolean(text) {
-        return Ok(Value::Bool(value));
+    if is_true(text) {
+        return Ok(Value::Bool(true));
+    }
+    if is_false(text) {
+        return Ok(Value::Bool(false));
     }
     if let Some(value) = number(alloc, text, at)? {
         return Ok(value);

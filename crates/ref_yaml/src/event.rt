@@ -1,4 +1,6 @@
 //! What a text has, in its order.
+ghost use Rattle.std.specs.Prelude.{◌↔◌, IsTrue, All};
+ghost use Rattle.ref_yaml.specs.Events.{IsWithin};
 
 /// A part of a text: a scalar, an alias, or the beginning or the end of a list or an object. In an object each key is
 /// followed by its value.
@@ -101,4 +103,13 @@ impl Event {
     pub(crate) fn is_like_json(&self) -> bool {
         !matches!(self.kind, Kind::Plain | Kind::Alias)
     }
+}
+
+// Whether the offsets of events are within a text of so many bytes.
+pub(crate) fn are_within(events: &[Event], len: usize) -> bool
+    ensures value { IsTrue result ↔ All (IsWithin len) events.now }
+{
+    events
+        .iter()
+        .all(|event| event.start <= event.end && event.end <= len)
 }

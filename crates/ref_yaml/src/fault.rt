@@ -61,6 +61,8 @@ pub enum Fault {
     Depth,
     /// A number that JSON doesn't have: an infinite one, no number, or one that is too large (10.2.1.4).
     Number,
+    /// An offset past the end: a mistake of this crate, which its checks found.
+    Offsets,
 }
 
 /// What is read though YAML 1.2 doesn't have it.

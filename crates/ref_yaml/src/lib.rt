@@ -10,6 +10,7 @@ mod cursor;
 mod document;
 mod escape;
 mod event;
+mod examples;
 mod expand;
 mod fault;
 mod feeds;
@@ -25,5 +26,5 @@ mod scan;
 mod text;
 
 pub use document::{Document, from_str};
-pub use event::{Event, Kind, Tag};
+pub use event::{Event, Kind, NOWHERE, Tag};
 pub use fault::{Fault, Leniency, Stop};

@@ -1,7 +1,7 @@
 //! The texts that scalars are.
-ghost use Rattle.std.specs.Prelude.{◌≡◌, ◌-◌, Some, IfOk, string_bytes, option_map};
-ghost use Rattle.ref_yaml.specs.Block as block;
+ghost use Rattle.std.specs.Prelude.{◌≡◌, ◌+◌, ◌-◌, Some, IfOk, string_bytes, option_map};
 ghost use Rattle.ref_yaml.specs.Scalars as spec;
+ghost use Rattle.ref_yaml.specs.declared.event.Kind.TheVariants.{Plain, SingleQuoted, DoubleQuoted};
 
 use crate::block_scalar::header_at;
 use crate::escape::unescaped;
@@ -85,8 +85,18 @@ fn block_of(alloc: Global, text: &str, event: &Event) -> Result<String, Stop> {
 }
 
 /// The text of a scalar's event.
-pub(crate) fn text_of(alloc: Global, text: &str, event: &Event) -> Result<String, Stop> {
-    let inner = event.start.saturating_add(1);
+pub(crate) fn text_of(alloc: Global, text: &str, event: &Event) -> Result<String, Stop>
+    ensures plain { IfOk result (λ s. event.now.kind ≡ Plain → string_bytes s
+        ≡ spec.plain_text (spec.part text.now event.now.start event.now.end)) }
+    ensures single { IfOk result (λ s. event.now.kind ≡ SingleQuoted → string_bytes s
+        ≡ spec.single_text (spec.part text.now (event.now.start + 1) (event.now.end - 1))) }
+    ensures double { IfOk result (λ s. event.now.kind ≡ DoubleQuoted → Some (string_bytes s)
+        ≡ spec.double_text (spec.part text.now (event.now.start + 1) (event.now.end - 1))) }
+{
+    if event.start > event.end || event.end > text.len() {
+        return Err(Stop::At(Fault::Offsets, event.start));
+    }
+    let inner = event.start + 1;
     let end = event.end.saturating_sub(1);
     match event.kind {
         Kind::Plain => {
