@@ -1,9 +1,12 @@
 //! A text of one document.
+ghost use Rattle.std.specs.Prelude.{All, length};
+ghost use Rattle.ref_yaml.specs.Events.{IsWithin};
+
 use crate::block::Place;
 use crate::build::Builder;
 use crate::bytes::{after_white, control_in, is_blank, line_end, peek, word_end};
 use crate::cursor::Cursor;
-use crate::event::Event;
+use crate::event::{Event, are_within};
 use crate::expand::expand;
 use crate::fault::{Fault, Leniency, Stop};
 use crate::links::link;
@@ -18,11 +21,19 @@ pub struct Document<'t> {
     text: &'t str,
     events: Vec<Event>,
     leniencies: Vec<Leniency>,
+    ghost within: { All (IsWithin (length text.now)) events.items },
 }
 
 /// The value of a text of YAML 1.2.
 pub fn from_str(alloc: Global, text: &str) -> Result<Value, Stop> {
     Document::parse(alloc, text)?.value(alloc)
+}
+
+// The events of a text with what aliases mean in their place.
+fn expanded(alloc: Global, text: &str, events: Vec<Event>) -> Result<Vec<Event>, Stop> {
+    let mut linked = events;
+    link(alloc, text, linked.as_mut_slice())?;
+    expand(alloc, text, linked.as_slice())
 }
 
 impl<'t> Document<'t> {
@@ -40,25 +51,33 @@ impl<'t> Document<'t> {
             leniencies,
             ..
         } = parser;
-        let mut document = Document {
+        if has_links {
+            let expanded = expanded(alloc, text, events)?;
+            return Document::checked(text, expanded, leniencies);
+        }
+        Document::checked(text, events, leniencies)
+    }
+
+    // A document whose offsets are looked at once more.
+    fn checked(
+        text: &'t str,
+        events: Vec<Event>,
+        leniencies: Vec<Leniency>,
+    ) -> Result<Document<'t>, Stop> {
+        if !are_within(events.as_slice(), text.len()) {
+            return Err(Stop::At(Fault::Offsets, 0));
+        }
+        Ok(Document {
             text,
             events,
             leniencies,
-        };
-        if has_links {
-            document.expand(alloc)?;
-        }
-        Ok(document)
-    }
-
-    fn expand(&mut self, alloc: Global) -> Result<(), Stop> {
-        link(alloc, self.text, self.events.as_mut_slice())?;
-        self.events = expand(alloc, self.text, self.events.as_slice())?;
-        Ok(())
+        })
     }
 
     /// Its events.
-    pub fn events(&self) -> &[Event] {
+    pub fn events(&self) -> &[Event]
+        ensures within { All (IsWithin (length self.now.text.now)) result.now }
+    {
         self.events.as_slice()
     }
 
