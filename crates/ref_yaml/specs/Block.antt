@@ -1,5 +1,5 @@
 -- What the text of a literal or a folded scalar is, by YAML 1.2.2, section 8.1. Texts are their bytes, with line feeds as line breaks.
-use Rattle.std.specs.Prelude.{ℕ, ◌+◌, ◌-◌, ◌==◌, ◌&&◌, ◌||◌, Bool, true, false, not, nat_lt, nat_le, if◌then◌else◌, List, [], ◌∷◌, ◌++◌, length, slice_index}
+use Rattle.std.specs.Prelude.{ℕ, ◌+◌, ◌-◌, ◌==◌, ◌&&◌, ◌||◌, Bool, true, false, not, nat_lt, if◌then◌else◌, List, [], ◌∷◌, ◌++◌, length, slice_index}
 use Rattle.ref_yaml.specs.Flow.{feeds, between, is_white}
 
 -- Lines without the spaces that they are indented by (8.1.1.1): at most so many of each line, and so many of this one.

@@ -1,5 +1,5 @@
 -- What the texts of scalars are, by YAML 1.2.2. Texts are their bytes.
-use Rattle.std.specs.Prelude.{◌≡◌, ℕ, ◌+◌, ◌-◌, ◌&&◌, true, false, nat_le, if◌then◌else◌, List, [], length, take, drop, Option, Some}
+use Rattle.std.specs.Prelude.{ℕ, ◌-◌, ◌&&◌, true, false, nat_le, if◌then◌else◌, List, [], length, take, drop, Option}
 use Rattle.ref_yaml.specs.Flow.{with_feeds, with_quotes, folded}
 use Rattle.ref_yaml.specs.Escapes.{unescaped}
 
