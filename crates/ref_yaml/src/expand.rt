@@ -62,12 +62,13 @@ impl Expander<'_> {
         Ok(())
     }
 
-    // Counts a part that is visited.
+    // Counts a part that is visited: one, and one for each eight bytes of it.
     fn count(&mut self, event: &Event) -> Result<(), Stop> {
-        if self.left == 0 {
+        let cost = 1 + event.end.saturating_sub(event.start) / 8;
+        if self.left < cost {
             return Err(Stop::At(Fault::Expansion, event.start));
         }
-        self.left -= 1;
+        self.left -= cost;
         Ok(())
     }
 
@@ -181,7 +182,7 @@ impl Expander<'_> {
                 break;
             }
             let value = self.after(at);
-            self.count(&self.event(at))?;
+            self.count(&self.event(self.target(at)))?;
             if !is_merge(self.text, &self.event(at)) && self.is_new(at, names)? {
                 self.emit(at, depth)?;
                 self.emit(value, depth)?;
