@@ -23,6 +23,15 @@ fn insert(members: &mut Map<String, Value>, name: String, value: Value) -> Resul
     Ok(())
 }
 
+// Whether a scalar is a text, whatever it says.
+fn is_text(event: &Event) -> bool {
+    match event.tag {
+        Tag::None => event.kind != Kind::Plain,
+        Tag::Text | Tag::Any => true,
+        _ => false,
+    }
+}
+
 impl Builder<'_> {
     fn event(&self, index: usize) -> Event {
         match self.events.get(index) {
@@ -52,29 +61,17 @@ impl Builder<'_> {
         }
     }
 
+    // The value of a scalar: a text where it is quoted or its tag asks for one.
     fn scalar(&self, event: &Event) -> Result<Value, Stop> {
         let text = text_of(self.alloc, self.text, event)?;
-        if event.kind != Kind::Plain || matches!(event.tag, Tag::Text | Tag::Any) {
-            return self.text_value(text, event);
+        if is_text(event) {
+            return Ok(Value::String(text));
         }
         let value = plain_value(self.alloc, text.as_str(), event.start)?;
         if !fits(event.tag, &value) {
             return Err(Stop::At(Fault::Tag, event.start));
         }
         Ok(value)
-    }
-
-    fn text_value(&self, text: String, event: &Event) -> Result<Value, Stop> {
-        match event.tag {
-            Tag::None | Tag::Text | Tag::Any => Ok(Value::String(text)),
-            _ => {
-                let value = plain_value(self.alloc, text.as_str(), event.start)?;
-                if !fits(event.tag, &value) {
-                    return Err(Stop::At(Fault::Tag, event.start));
-                }
-                Ok(value)
-            }
-        }
     }
 
     #[cycle(value)]

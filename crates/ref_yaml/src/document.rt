@@ -1,6 +1,8 @@
 //! A text of one document.
-ghost use Rattle.std.specs.Prelude.{All, length};
+ghost use Rattle.std.specs.Prelude.{◌≡◌, ◌+◌, ◌-◌, Some, All, IfOk, length, string_bytes};
 ghost use Rattle.ref_yaml.specs.Events.{IsWithin};
+ghost use Rattle.ref_yaml.specs.Scalars as spec;
+ghost use Rattle.ref_yaml.specs.declared.event.Kind.TheVariants.{Plain, SingleQuoted, DoubleQuoted, Literal, Folded};
 
 use crate::block::Place;
 use crate::build::Builder;
@@ -24,7 +26,11 @@ pub struct Document<'t> {
     ghost within: { All (IsWithin (length text.now)) events.items },
 }
 
-/// The value of a text of YAML 1.2.
+/// The value of a text of one document of YAML 1.2.2. An empty one is null.
+///
+/// Of an object each key is a text that comes once; a number is read as `serde_json` reads it. An error is memory, or what
+/// is wrong and its offset in bytes. Linear in the text, but for aliases: they may make ten parts for each byte, and a
+/// million at least, each of eight bytes of text at most.
 pub fn from_str(alloc: Global, text: &str) -> Result<Value, Stop> {
     Document::parse(alloc, text)?.value(alloc)
 }
@@ -37,7 +43,10 @@ fn expanded(alloc: Global, text: &str, events: Vec<Event>) -> Result<Vec<Event>,
 }
 
 impl<'t> Document<'t> {
-    /// Reads a text of one document. A byte order mark at its beginning is passed over.
+    /// Reads a text of one document (9.1). A byte order mark at its beginning is passed over.
+    ///
+    /// An error is memory, or what is wrong in its structure and where. What is wrong in a scalar, as an escape or a
+    /// number, and a key that comes twice, [`Document::value`] finds. Linear in the text, but for aliases, as [`from_str`].
     pub fn parse(alloc: Global, text: &'t str) -> Result<Document<'t>, Stop> {
         if let Some(at) = control_in(text) {
             return Err(Stop::At(Fault::Character, at));
@@ -74,7 +83,8 @@ impl<'t> Document<'t> {
         })
     }
 
-    /// Its events.
+    /// Its events, in the order of the text, with those of what an alias means in its place. Their offsets are within the
+    /// text. It has one value: a scalar, or all from a beginning to its end.
     pub fn events(&self) -> &[Event]
         ensures within { All (IsWithin (length self.now.text.now)) result.now }
     {
@@ -86,12 +96,25 @@ impl<'t> Document<'t> {
         self.leniencies.as_slice()
     }
 
-    /// The text of a key or a scalar.
-    pub fn text_of(&self, alloc: Global, event: &Event) -> Result<String, Stop> {
+    /// The text of a key or a scalar: folding (6.5), escapes (5.7), chomping and indentation (8.1). An error is memory or
+    /// an escape that there isn't, at the beginning of its text. Linear in the event's bytes.
+    pub fn text_of(&self, alloc: Global, event: &Event) -> Result<String, Stop>
+        ensures plain { IfOk result (λ s. event.now.kind ≡ Plain → string_bytes s
+            ≡ spec.plain_text (spec.part self.now.text.now event.now.start event.now.end)) }
+        ensures single { IfOk result (λ s. event.now.kind ≡ SingleQuoted → string_bytes s
+            ≡ spec.single_text (spec.part self.now.text.now (event.now.start + 1) (event.now.end - 1))) }
+        ensures double { IfOk result (λ s. event.now.kind ≡ DoubleQuoted → Some (string_bytes s)
+            ≡ spec.double_text (spec.part self.now.text.now (event.now.start + 1) (event.now.end - 1))) }
+        ensures literal { IfOk result (λ s. event.now.kind ≡ Literal
+            → spec.IsLiteral self.now.text.now event.now.link event.now.end (string_bytes s)) }
+        ensures folded { IfOk result (λ s. event.now.kind ≡ Folded
+            → spec.IsFolded self.now.text.now event.now.link event.now.end (string_bytes s)) }
+    {
         text_of(alloc, self.text, event)
     }
 
-    /// Its value.
+    /// Its value, by the core schema (10.3.2). An error is memory; a key that comes twice in an object; a number that JSON
+    /// doesn't have; an escape that there isn't; or a tag that its value doesn't fit. Linear in the events and their texts.
     pub fn value(&self, alloc: Global) -> Result<Value, Stop> {
         let builder = Builder {
             alloc,

@@ -182,7 +182,8 @@ impl Expander<'_> {
                 break;
             }
             let value = self.after(at);
-            self.count(&self.event(self.target(at)))?;
+            let key = self.event(self.target(at));
+            self.count(&key)?;
             if !is_merge(self.text, &self.event(at)) && self.is_new(at, names)? {
                 self.emit(at, depth)?;
                 self.emit(value, depth)?;

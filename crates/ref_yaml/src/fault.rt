@@ -11,7 +11,7 @@ pub enum Stop {
 }
 
 /// What is wrong in a text. The numbers are sections of YAML 1.2.2.
-#[derive(Clone, Copy, Debug, Drop)]
+#[derive(Clone, Copy, Drop)]
 pub enum Fault {
     /// A control character (5.1).
     Character,
@@ -63,6 +63,42 @@ pub enum Fault {
     Number,
     /// An offset past the end: a mistake of this crate, which its checks found.
     Offsets,
+}
+
+// The names of faults, in their order.
+const NAMES: [&str; 25] = [
+    "character",
+    "directive",
+    "tag",
+    "properties",
+    "alias",
+    "cycle",
+    "expansion",
+    "merge",
+    "tab",
+    "indentation",
+    "block",
+    "begin",
+    "key",
+    "long-key",
+    "colon",
+    "same-key",
+    "end",
+    "comma",
+    "escape",
+    "header",
+    "after",
+    "document",
+    "depth",
+    "number",
+    "offsets",
+];
+
+impl Fault {
+    /// Its name, in lower case with hyphens.
+    pub fn name(self) -> &'static str {
+        NAMES.get(self as usize).copied().unwrap_or("")
+    }
 }
 
 /// What is read though YAML 1.2 doesn't have it.

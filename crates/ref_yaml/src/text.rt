@@ -1,7 +1,7 @@
 //! The texts that scalars are.
 ghost use Rattle.std.specs.Prelude.{◌≡◌, ◌+◌, ◌-◌, Some, IfOk, string_bytes, option_map};
 ghost use Rattle.ref_yaml.specs.Scalars as spec;
-ghost use Rattle.ref_yaml.specs.declared.event.Kind.TheVariants.{Plain, SingleQuoted, DoubleQuoted};
+ghost use Rattle.ref_yaml.specs.declared.event.Kind.TheVariants.{Plain, SingleQuoted, DoubleQuoted, Literal, Folded};
 
 use crate::block_scalar::header_at;
 use crate::escape::unescaped;
@@ -70,17 +70,29 @@ fn double_of(alloc: Global, text: &str, start: usize, end: usize) -> Result<Stri
     }
 }
 
-// The text of a literal or a folded event.
-fn block_of(alloc: Global, text: &str, event: &Event) -> Result<String, Stop> {
+// The text of a literal event.
+fn literal_of(alloc: Global, text: &str, event: &Event) -> Result<String, Stop>
+    ensures value { IfOk result
+        (λ s. spec.IsLiteral text.now event.now.link event.now.end (string_bytes s)) }
+{
     let Some(header) = header_at(text, event.start) else {
         return Err(Stop::At(Fault::Header, event.start));
     };
     let lines = with_feeds(alloc, part(text, header.body, event.end))?;
-    let bytes = if event.kind == Kind::Literal {
-        literal_text(alloc, lines.as_slice(), event.link, header.chomping)?
-    } else {
-        folded_text(alloc, lines.as_slice(), event.link, header.chomping)?
+    let bytes = literal_text(alloc, lines.as_slice(), event.link, header.chomping)?;
+    string_of(bytes, event.start)
+}
+
+// The text of a folded event.
+fn folded_of(alloc: Global, text: &str, event: &Event) -> Result<String, Stop>
+    ensures value { IfOk result
+        (λ s. spec.IsFolded text.now event.now.link event.now.end (string_bytes s)) }
+{
+    let Some(header) = header_at(text, event.start) else {
+        return Err(Stop::At(Fault::Header, event.start));
     };
+    let lines = with_feeds(alloc, part(text, header.body, event.end))?;
+    let bytes = folded_text(alloc, lines.as_slice(), event.link, header.chomping)?;
     string_of(bytes, event.start)
 }
 
@@ -92,6 +104,10 @@ pub(crate) fn text_of(alloc: Global, text: &str, event: &Event) -> Result<String
         ≡ spec.single_text (spec.part text.now (event.now.start + 1) (event.now.end - 1))) }
     ensures double { IfOk result (λ s. event.now.kind ≡ DoubleQuoted → Some (string_bytes s)
         ≡ spec.double_text (spec.part text.now (event.now.start + 1) (event.now.end - 1))) }
+    ensures literal { IfOk result (λ s. event.now.kind ≡ Literal
+        → spec.IsLiteral text.now event.now.link event.now.end (string_bytes s)) }
+    ensures folded { IfOk result (λ s. event.now.kind ≡ Folded
+        → spec.IsFolded text.now event.now.link event.now.end (string_bytes s)) }
 {
     if event.start > event.end || event.end > text.len() {
         return Err(Stop::At(Fault::Offsets, event.start));
@@ -108,7 +124,8 @@ pub(crate) fn text_of(alloc: Global, text: &str, event: &Event) -> Result<String
             string_of(bytes, inner)
         }
         Kind::DoubleQuoted => double_of(alloc, text, inner, end),
-        Kind::Literal | Kind::Folded => block_of(alloc, text, event),
+        Kind::Literal => literal_of(alloc, text, event),
+        Kind::Folded => folded_of(alloc, text, event),
         _ => Ok(String::new(alloc)),
     }
 }

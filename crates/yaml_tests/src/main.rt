@@ -20,7 +20,10 @@ use std::io;
 fn text_of_stop(alloc: Global, stop: Stop) -> Result<String, AllocError> {
     match stop {
         Stop::Memory => Err(AllocError),
-        Stop::At(fault, offset) => format!(in alloc; "{fault:?} {offset}"),
+        Stop::At(fault, offset) => {
+            let name = fault.name();
+            format!(in alloc; "{name} {offset}")
+        }
     }
 }
 
