@@ -74,7 +74,8 @@ fn number(alloc: Global, text: &str, at: usize) -> Result<Option<Value>, Stop> {
         return Err(Stop::At(Fault::Number, at));
     }
     match in_radix(text) {
-        Some(value) => Ok(Some(Value::from(value))),
+        Some(Some(value)) => Ok(Some(Value::from(value))),
+        Some(None) => Err(Stop::At(Fault::Number, at)),
         None => Ok(None),
     }
 }

@@ -152,7 +152,7 @@ impl Expander<'_> {
         depth: usize,
         levels: usize,
     ) -> Result<(), Stop> {
-        self.own_members(index, names, depth)?;
+        self.own_members(index, names, depth, levels < 127)?;
         let end = self.event(index).link;
         let mut at = index.saturating_add(1);
         for _ in 0..self.events.len() {
@@ -168,12 +168,14 @@ impl Expander<'_> {
         Ok(())
     }
 
+    // Adds the members of an object but for `<<`: of one that is merged, those whose keys aren't there yet.
     #[cycle(emit)]
     fn own_members(
         &mut self,
         index: usize,
         names: &mut BTreeSet<String>,
         depth: usize,
+        is_merged: bool,
     ) -> Result<(), Stop> {
         let end = self.event(index).link;
         let mut at = index.saturating_add(1);
@@ -184,9 +186,12 @@ impl Expander<'_> {
             let value = self.after(at);
             let key = self.event(self.target(at));
             self.count(&key)?;
-            if !is_merge(self.text, &self.event(at)) && self.is_new(at, names)? {
-                self.emit(at, depth)?;
-                self.emit(value, depth)?;
+            if !is_merge(self.text, &self.event(at)) {
+                let is_new = self.is_new(at, names)?;
+                if is_new || !is_merged {
+                    self.emit(at, depth)?;
+                    self.emit(value, depth)?;
+                }
             }
             at = self.after(value);
         }

@@ -176,21 +176,12 @@ impl Parser<'_> {
         let index = self.events.len();
         self.flow_node(floor, start, depth)?;
         self.mark_key(index)?;
-        self.note_last_merge();
         if self.is_flow_colon() {
             self.check_flow(floor, 0)?;
             return self.flow_value(floor, depth);
         }
         let end = self.last_end();
         self.push_empty(Properties::none(end))
-    }
-
-    fn note_last_merge(&mut self) {
-        let key = match self.events.last() {
-            Some(event) => *event,
-            None => return,
-        };
-        self.note_merge(&key);
     }
 
     // The value after the colon that is here.

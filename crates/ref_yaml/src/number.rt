@@ -91,14 +91,14 @@ impl Decimal {
     }
 }
 
-// The number that a text after `0o` or `0x` is, or nothing where it is none or too large.
-pub(crate) fn in_radix(text: &str) -> Option<u64> {
+// The number that a text after `0o` or `0x` is, or nothing where it is none; it is nothing itself where it is too large.
+pub(crate) fn in_radix(text: &str) -> Option<Option<u64>> {
     let (digits, radix) = match text.strip_prefix("0o") {
         Some(digits) => (digits, 8),
         None => (text.strip_prefix("0x")?, 16),
     };
-    if !digits.bytes().all(|byte| char::from(byte).is_digit(radix)) {
+    if digits.is_empty() || !digits.bytes().all(|byte| char::from(byte).is_digit(radix)) {
         return None;
     }
-    u64::from_str_radix(digits, radix).ok()
+    Some(u64::from_str_radix(digits, radix).ok())
 }

@@ -163,6 +163,8 @@ impl<'t> Parser<'t> {
             return Err(Stop::At(Fault::Key, event.start));
         }
         event.is_key = true;
+        let key = *event;
+        self.note_merge(&key);
         Ok(())
     }
 
