@@ -1,0 +1,12 @@
+-- What passing a byte of a text with escapes gives.
+use Rattle.std.specs.Prelude.{◌≡◌, ℕ, List, ◌++◌, Option, Some, None}
+use Rattle.ref_yaml.specs.declared.escape.Reading as code
+use Rattle.ref_yaml.specs.Escapes.{Reading}
+
+abbrev pub reading_of : code.Reading → Reading
+reading_of r = record { after = r.after; left = r.left; number = r.number; first = r.first }
+
+-- Where the definition gives nothing, nothing; else what it adds is added, and how much is read is as it says.
+abbrev pub Passes : Option (List ℕ × Reading) → List ℕ → List ℕ → Option code.Reading → Type 0
+Passes defined old new None = defined ≡ None
+Passes defined old new (Some r) = (s : List ℕ) × (defined ≡ Some (s, reading_of r)) × (new ≡ old ++ s)

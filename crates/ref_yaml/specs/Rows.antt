@@ -1,0 +1,64 @@
+-- The texts of examples of YAML 1.2.2.
+use Rattle.std.specs.Prelude.{ℕ, List, codes}
+
+-- 7.12
+abbrev pub plain_lines : List ℕ
+plain_lines = codes "1st non-empty\n\n 2nd non-empty \n\t3rd non-empty"
+
+abbrev pub plain_lines_text : List ℕ
+plain_lines_text = codes "1st non-empty\n2nd non-empty 3rd non-empty"
+
+-- 7.9
+abbrev pub single_lines : List ℕ
+single_lines = codes " 1st non-empty\n\n 2nd non-empty \n\t3rd non-empty "
+
+abbrev pub single_lines_text : List ℕ
+single_lines_text = codes " 1st non-empty\n2nd non-empty 3rd non-empty "
+
+-- 7.7
+abbrev pub single_quotes : List ℕ
+single_quotes = codes "here''s to \"quotes\""
+
+abbrev pub single_quotes_text : List ℕ
+single_quotes_text = codes "here's to \"quotes\""
+
+-- 7.5
+abbrev pub double_lines : List ℕ
+double_lines = codes "folded \nto a space,\t\n \nto a line feed, or \t\\\n \\ \tnon-content"
+
+abbrev pub double_lines_text : List ℕ
+double_lines_text = codes "folded to a space,\nto a line feed, or \t \tnon-content"
+
+-- 5.13
+abbrev pub escapes : List ℕ
+escapes = codes "\\n \\r \\t \\  \\x41 \\u0041 \\U00000041"
+
+abbrev pub escapes_text : List ℕ
+escapes_text = codes "\n \r \t   A A A"
+
+-- 8.5
+abbrev pub one_line : List ℕ
+one_line = codes "  # text\n\n"
+
+abbrev pub stripped : List ℕ
+stripped = codes "# text"
+
+abbrev pub clipped : List ℕ
+clipped = codes "# text\n"
+
+abbrev pub kept : List ℕ
+kept = codes "# text\n\n"
+
+-- 8.7
+abbrev pub literal : List ℕ
+literal = codes " literal\n \ttext\n\n\n"
+
+abbrev pub literal_text : List ℕ
+literal_text = codes "literal\n\ttext\n"
+
+-- 8.10
+abbrev pub folded_lines : List ℕ
+folded_lines = codes "\n folded\n line\n\n next\n line\n   * bullet\n\n   * list\n   * lines\n\n last\n line\n\n"
+
+abbrev pub folded_lines_text : List ℕ
+folded_lines_text = codes "\nfolded line\nnext line\n  * bullet\n\n  * list\n  * lines\n\nlast line\n"

@@ -1,0 +1,197 @@
+//! A text of one document.
+ghost use Rattle.std.specs.Prelude.{◌≡◌, ◌+◌, ◌-◌, Some, All, IfOk, length, string_bytes};
+ghost use Rattle.ref_yaml.specs.Events.{IsWithin};
+ghost use Rattle.ref_yaml.specs.Scalars as spec;
+ghost use Rattle.ref_yaml.specs.declared.event.Kind.TheVariants.{Plain, SingleQuoted, DoubleQuoted, Literal, Folded};
+
+use crate::block::Place;
+use crate::build::Builder;
+use crate::bytes::{after_white, control_in, is_blank, line_end, peek, word_end};
+use crate::cursor::Cursor;
+use crate::event::{Event, are_within};
+use crate::expand::expand;
+use crate::fault::{Fault, Leniency, Stop};
+use crate::links::link;
+use crate::parser::Parser;
+use crate::text::text_of;
+use serde_json::Value;
+use std::alloc::Global;
+
+/// A text that was read: its events, with what aliases mean in their place.
+#[derive(Drop)]
+pub struct Document<'t> {
+    text: &'t str,
+    events: Vec<Event>,
+    leniencies: Vec<Leniency>,
+    ghost within: { All (IsWithin (length text.now)) events.items },
+}
+
+/// The value of a text of one document of YAML 1.2.2. An empty one is null.
+///
+/// Of an object each key is a text that comes once; a number is read as `serde_json` reads it. An error is memory, or what
+/// is wrong and its offset in bytes. Linear in the text, but for aliases: they may make ten parts for each byte, and a
+/// million at least, each of eight bytes of text at most.
+pub fn from_str(alloc: Global, text: &str) -> Result<Value, Stop> {
+    Document::parse(alloc, text)?.value(alloc)
+}
+
+// The events of a text with what aliases mean in their place.
+fn expanded(alloc: Global, text: &str, events: Vec<Event>) -> Result<Vec<Event>, Stop> {
+    let mut linked = events;
+    link(alloc, text, linked.as_mut_slice())?;
+    expand(alloc, text, linked.as_slice())
+}
+
+impl<'t> Document<'t> {
+    /// Reads a text of one document (9.1). A byte order mark at its beginning is passed over.
+    ///
+    /// An error is memory, or what is wrong in its structure and where. What is wrong in a scalar, as an escape or a
+    /// number, and a key that comes twice, [`Document::value`] finds. Linear in the text, but for aliases, as [`from_str`].
+    pub fn parse(alloc: Global, text: &'t str) -> Result<Document<'t>, Stop> {
+        if let Some(at) = control_in(text) {
+            return Err(Stop::At(Fault::Character, at));
+        }
+        let from = if text.starts_with('\u{feff}') { 3 } else { 0 };
+        let mut parser = Parser::new(alloc, text, from);
+        parser.stream()?;
+        let has_links = parser.has_links;
+        let Parser {
+            events,
+            leniencies,
+            ..
+        } = parser;
+        if has_links {
+            let expanded = expanded(alloc, text, events)?;
+            return Document::checked(text, expanded, leniencies);
+        }
+        Document::checked(text, events, leniencies)
+    }
+
+    // A document whose offsets are looked at once more.
+    fn checked(
+        text: &'t str,
+        events: Vec<Event>,
+        leniencies: Vec<Leniency>,
+    ) -> Result<Document<'t>, Stop> {
+        if !are_within(events.as_slice(), text.len()) {
+            return Err(Stop::At(Fault::Offsets, 0));
+        }
+        Ok(Document {
+            text,
+            events,
+            leniencies,
+        })
+    }
+
+    /// Its events, in the order of the text, with those of what an alias means in its place. Their offsets are within the
+    /// text. It has one value: a scalar, or all from a beginning to its end.
+    pub fn events(&self) -> &[Event]
+        ensures within { All (IsWithin (length self.now.text.now)) result.now }
+    {
+        self.events.as_slice()
+    }
+
+    /// What was read though YAML 1.2 doesn't have it.
+    pub fn leniencies(&self) -> &[Leniency] {
+        self.leniencies.as_slice()
+    }
+
+    /// The text of a key or a scalar: folding (6.5), escapes (5.7), chomping and indentation (8.1). An error is memory or
+    /// an escape that there isn't, at the beginning of its text. Linear in the event's bytes.
+    pub fn text_of(&self, alloc: Global, event: &Event) -> Result<String, Stop>
+        ensures plain { IfOk result (λ s. event.now.kind ≡ Plain → string_bytes s
+            ≡ spec.plain_text (spec.part self.now.text.now event.now.start event.now.end)) }
+        ensures single { IfOk result (λ s. event.now.kind ≡ SingleQuoted → string_bytes s
+            ≡ spec.single_text (spec.part self.now.text.now (event.now.start + 1) (event.now.end - 1))) }
+        ensures double { IfOk result (λ s. event.now.kind ≡ DoubleQuoted → Some (string_bytes s)
+            ≡ spec.double_text (spec.part self.now.text.now (event.now.start + 1) (event.now.end - 1))) }
+        ensures literal { IfOk result (λ s. event.now.kind ≡ Literal
+            → spec.IsLiteral self.now.text.now event.now.link event.now.end (string_bytes s)) }
+        ensures folded { IfOk result (λ s. event.now.kind ≡ Folded
+            → spec.IsFolded self.now.text.now event.now.link event.now.end (string_bytes s)) }
+    {
+        text_of(alloc, self.text, event)
+    }
+
+    /// Its value, by the core schema (10.3.2). An error is memory; a key that comes twice in an object; a number that JSON
+    /// doesn't have; an escape that there isn't; or a tag that its value doesn't fit. Linear in the events and their texts.
+    pub fn value(&self, alloc: Global) -> Result<Value, Stop> {
+        let builder = Builder {
+            alloc,
+            text: self.text,
+            events: self.events.as_slice(),
+        };
+        builder.value(0, 127)
+    }
+}
+
+impl Parser<'_> {
+    // Reads the one document.
+    fn stream(&mut self) -> Result<(), Stop> {
+        let is_directive = self.directive()?;
+        let mut is_marked = false;
+        if self.is_document_start() {
+            let next = self.here.at.saturating_add(3);
+            self.advance(next);
+            is_marked = true;
+        }
+        if is_directive && !is_marked {
+            return self.fault(Fault::Directive);
+        }
+        let place = Place {
+            floor: 0,
+            dash: 0,
+            is_compact: false,
+            after: self.here.at.min(self.text.len()),
+        };
+        self.block_node(place, 127)?;
+        self.end_of_stream()
+    }
+
+    fn is_document_start(&self) -> bool {
+        self.byte() == b'-' && self.here.is_marker(self.text)
+    }
+
+    // Passes a directive `%YAML`, and returns whether there is one.
+    fn directive(&mut self) -> Result<bool, Stop> {
+        if self.byte() != b'%' || !self.here.is_first {
+            return Ok(false);
+        }
+        let start = self.here.at;
+        let end = word_end(self.text, start);
+        let version = after_white(self.text, end);
+        let version_end = word_end(self.text, version);
+        let is_known = self.text.get(start..end) == Some("%YAML")
+            && matches!(self.text.get(version..version_end), Some("1.1" | "1.2"));
+        self.advance(version_end);
+        if !is_known || !self.is_line_over() || self.byte() == b'%' {
+            return Err(Stop::At(Fault::Directive, start));
+        }
+        Ok(true)
+    }
+
+    // Whether nothing but the end of the document is left.
+    fn end_of_stream(&mut self) -> Result<(), Stop> {
+        if self.is_at_end() {
+            return Ok(());
+        }
+        if !self.here.is_first || !self.here.is_marker(self.text) {
+            if self.here.is_first && self.here.has_tab {
+                return self.fault(Fault::Tab);
+            }
+            return self.fault(Fault::After);
+        }
+        if self.byte() == b'-' {
+            return self.fault(Fault::Document);
+        }
+        let next = self.here.at.saturating_add(3);
+        self.advance(next);
+        if !self.is_line_over() {
+            return self.fault(Fault::After);
+        }
+        if self.is_at_end() {
+            return Ok(());
+        }
+        self.fault(Fault::Document)
+    }
+}

@@ -1,0 +1,115 @@
+//! What a text has, in its order.
+ghost use Rattle.std.specs.Prelude.{◌↔◌, IsTrue, All};
+ghost use Rattle.ref_yaml.specs.Events.{IsWithin};
+
+/// A part of a text: a scalar, an alias, or the beginning or the end of a list or an object. In an object each key is
+/// followed by its value.
+#[derive(Clone, Copy, Drop)]
+pub struct Event {
+    /// What it is.
+    pub kind: Kind,
+    /// Whether it is a key.
+    pub is_key: bool,
+    /// Its tag.
+    pub tag: Tag,
+    /// The offset of its first byte. An empty scalar is where it would begin.
+    pub start: usize,
+    /// The offset after its last byte.
+    pub end: usize,
+    /// Of a beginning the index of its end, of an alias that of what it means, and of a literal or a folded text the
+    /// spaces before each line.
+    pub link: usize,
+    /// The offset of its anchor's `&`, or `NOWHERE`.
+    pub anchor: usize,
+}
+
+/// What an event is.
+#[derive(Clone, Copy, Drop, PartialEq, Eq)]
+pub enum Kind {
+    /// A list begins.
+    BeginArray,
+    /// A list ends.
+    EndArray,
+    /// An object begins.
+    BeginObject,
+    /// An object ends.
+    EndObject,
+    /// A scalar without quotes; an empty one too.
+    Plain,
+    /// A text in single quotes.
+    SingleQuoted,
+    /// A text in double quotes.
+    DoubleQuoted,
+    /// A text after `|`.
+    Literal,
+    /// A text after `>`.
+    Folded,
+    /// An alias.
+    Alias,
+}
+
+/// A tag of the core schema (10.3).
+#[derive(Clone, Copy, Drop, PartialEq, Eq)]
+pub enum Tag {
+    /// None.
+    None,
+    /// `!!str`, or `!` alone.
+    Text,
+    /// `!!int`.
+    Int,
+    /// `!!float`.
+    Float,
+    /// `!!bool`.
+    Bool,
+    /// `!!null`.
+    Null,
+    /// `!!seq`.
+    Array,
+    /// `!!map`.
+    Object,
+    /// Any of these, of `!` alone.
+    Any,
+}
+
+/// The offset of what isn't there.
+pub const NOWHERE: usize = usize::MAX;
+
+impl Event {
+    pub(crate) fn new(kind: Kind, start: usize, end: usize) -> Event {
+        Event {
+            kind,
+            is_key: false,
+            tag: Tag::None,
+            start,
+            end,
+            link: 0,
+            anchor: NOWHERE,
+        }
+    }
+
+    pub(crate) fn empty(at: usize) -> Event {
+        Event::new(Kind::Plain, at, at)
+    }
+
+    // Whether it is a scalar, or an alias.
+    pub(crate) fn is_leaf(&self) -> bool {
+        !matches!(
+            self.kind,
+            Kind::BeginArray | Kind::EndArray | Kind::BeginObject | Kind::EndObject
+        )
+    }
+
+    // Whether a colon after it needs no space (7.4.2).
+    pub(crate) fn is_like_json(&self) -> bool {
+        !matches!(self.kind, Kind::Plain | Kind::Alias)
+    }
+}
+
+// Whether the offsets of events are within a text of so many bytes.
+pub(crate) fn are_within(events: &[Event], len: usize) -> bool
+    ensures value { IsTrue result ↔ All (IsWithin len) events.now }
+{
+    events
+        .iter()
+        .all(|event| event.start <= event.end && event.end <= len)
+}

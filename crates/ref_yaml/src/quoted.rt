@@ -1,0 +1,76 @@
+//! Where quoted texts end, and whether their lines are indented (7.3.1, 7.3.2).
+use crate::bytes::{is_break, peek};
+use crate::cursor::Cursor;
+
+// The offset of the single quote that ends a text.
+pub(crate) fn single_end(text: &str, from: usize) -> Option<usize> {
+    let mut is_second = false;
+    for at in from..text.len() {
+        if is_second {
+            is_second = false;
+        } else if peek(text, at) == b'\'' {
+            if peek(text, at + 1) != b'\'' {
+                return Some(at);
+            }
+            is_second = true;
+        }
+    }
+    None
+}
+
+// The offset of the double quote that ends a text.
+pub(crate) fn double_end(text: &str, from: usize) -> Option<usize> {
+    let mut is_escaped = false;
+    for at in from..text.len() {
+        let byte = peek(text, at);
+        if is_escaped {
+            is_escaped = false;
+        } else if byte == b'\\' {
+            is_escaped = true;
+        } else if byte == b'"' {
+            return Some(at);
+        }
+    }
+    None
+}
+
+// How the lines of a quoted text lie.
+#[derive(Clone, Copy, Drop)]
+pub(crate) struct Lines {
+    pub(crate) is_one: bool,
+    // The first that is indented by too few spaces.
+    pub(crate) outside: Option<Cursor>,
+    // The first that begins or ends a document.
+    pub(crate) marker: Option<usize>,
+}
+
+// The lines from one offset to another, which are to be indented by so many spaces at least.
+pub(crate) fn lines_of(text: &str, from: usize, to: usize, floor: usize) -> Lines {
+    let mut lines = Lines {
+        is_one: true,
+        outside: None,
+        marker: None,
+    };
+    for at in from..to {
+        if is_break(peek(text, at)) {
+            lines.is_one = false;
+            lines.pass(Cursor::on_line(text, at + 1, at + 1), text, floor);
+        }
+    }
+    lines
+}
+
+impl Lines {
+    // Passes the first place of a line.
+    fn pass(&mut self, here: Cursor, text: &str, floor: usize) {
+        if is_break(peek(text, here.at)) {
+            return;
+        }
+        if here.indent < floor && self.outside.is_none() {
+            self.outside = Some(here);
+        }
+        if here.is_marker(text) && self.marker.is_none() {
+            self.marker = Some(here.at);
+        }
+    }
+}

@@ -1,0 +1,127 @@
+//! The tests of `ref_yaml`, whose rows are data: reads a row a line from standard input and prints each whose answer is
+//! another, and how many hold. A row is a JSON list of a text of YAML and of
+//!
+//! - its value;
+//! - the name of what is wrong in it, and where;
+//! - `"offsets"`, and a list of where its events begin;
+//! - `"leniencies"`, and how many there are.
+//!
+//! Of a row that has nothing after its text the value is printed.
+//!
+//! Lines that are empty or begin with `//` are skipped.
+#![tactic(auto)]
+
+use ref_yaml::{Document, Stop, from_str};
+use serde_json::Value;
+use std::alloc::{AllocError, Global};
+use std::io;
+
+/// What is said of a text that isn't read.
+fn text_of_stop(alloc: Global, stop: Stop) -> Result<String, AllocError> {
+    match stop {
+        Stop::Memory => Err(AllocError),
+        Stop::At(fault, offset) => {
+            let name = fault.name();
+            format!(in alloc; "{name} {offset}")
+        }
+    }
+}
+
+/// What a text is, as JSON.
+fn value_of(alloc: Global, text: &str) -> Result<String, AllocError> {
+    match from_str(alloc, text) {
+        Ok(value) => value.to_string(alloc),
+        Err(stop) => text_of_stop(alloc, stop),
+    }
+}
+
+/// Where the events of a text begin, as JSON.
+fn offsets_of(alloc: Global, document: &Document<'_>) -> Result<String, AllocError> {
+    let mut out = String::from_str(alloc, "[")?;
+    for event in document.events() {
+        if out.len() > 1 {
+            out.push(',')?;
+        }
+        let start = event.start;
+        let text = format!(in alloc; "{start}")?;
+        out.push_str(text.as_str())?;
+    }
+    out.push(']')?;
+    Ok(out)
+}
+
+/// What is asked of a text that is read.
+fn part_of(alloc: Global, text: &str, asked: &str) -> Result<String, AllocError> {
+    match Document::parse(alloc, text) {
+        Ok(document) => {
+            if asked == "offsets" {
+                return offsets_of(alloc, &document);
+            }
+            let count = document.leniencies().len();
+            format!(in alloc; "{count}")
+        }
+        Err(stop) => text_of_stop(alloc, stop),
+    }
+}
+
+/// The answer to a row.
+fn answer(alloc: Global, text: &str, row: &Value) -> Result<String, AllocError> {
+    match row.get(1).and_then(Value::as_str) {
+        Some("offsets") => part_of(alloc, text, "offsets"),
+        Some("leniencies") => part_of(alloc, text, "leniencies"),
+        _ => value_of(alloc, text),
+    }
+}
+
+/// The answer that a row expects.
+fn expected(alloc: Global, row: &Value) -> Result<String, AllocError> {
+    let Some(second) = row.get(1) else {
+        return String::from_str(alloc, "");
+    };
+    let Some(third) = row.get(2) else {
+        return second.to_string(alloc);
+    };
+    let wanted = third.to_string(alloc)?;
+    match second.as_str() {
+        Some("offsets" | "leniencies") | None => Ok(wanted),
+        Some(name) => format!(in alloc; "{name} {wanted}"),
+    }
+}
+
+/// What is said of a row whose answer is another, or that expects none.
+fn difference(alloc: Global, row: &Value) -> Result<Option<String>, AllocError> {
+    let text = row.get(0).and_then(Value::as_str).unwrap_or("");
+    if row.get(1).is_none() {
+        return Ok(Some(value_of(alloc, text)?));
+    }
+    let wanted = expected(alloc, row)?;
+    let found = answer(alloc, text, row)?;
+    if found.as_str() == wanted.as_str() {
+        return Ok(None);
+    }
+    let message = format!(in alloc; "{text:?}: {found}, and not {wanted}")?;
+    Ok(Some(message))
+}
+
+/// What is said of a line.
+fn difference_of_line(alloc: Global, line: &str) -> Result<Option<String>, AllocError> {
+    let Ok(row) = Value::from_str(alloc, line) else {
+        return Ok(Some(String::from_str(alloc, "no JSON")?));
+    };
+    difference(alloc, &row)
+}
+
+fn main(rt: HostRuntime) -> io::Result<()> {
+    let mut held: u64 = 0;
+    for line in rt.lines(rt.alloc()) {
+        let line = line?;
+        if line.is_empty() || line.as_str().starts_with("//") {
+            continue;
+        }
+        match difference_of_line(rt.alloc(), line.as_str())? {
+            Some(text) => println!(rt; "{text}")?,
+            None => held = held.saturating_add(1),
+        }
+    }
+    println!(rt; "{held} rows hold")
+}
