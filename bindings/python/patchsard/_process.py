@@ -52,7 +52,11 @@ class Process:
         assert self._popen.stdin is not None and self._popen.stdout is not None
         self._input = self._popen.stdin.fileno()
         self._output = self._popen.stdout.fileno()
-        self._lock = threading.Lock()
+        self._lock = threading.RLock()
+        # The thread that asks.
+        self._asking: Optional[int] = None
+        # Whether a call was begun whose answer isn't read whole yet.
+        self._is_amid = False
         self._to_close: Deque[int] = collections.deque()
         self.asked = False
         self.ended = False
@@ -65,17 +69,29 @@ class Process:
 
     def is_alive(self) -> bool:
         """Whether it runs still, as far as one can know without asking it."""
-        if not self.ended and self._popen.poll() is not None:
+        if self.ended or self._is_nested():
+            return not self.ended
+        if self._popen.poll() is not None:
             with self._lock:
                 if not self.ended:
                     self._end()
         return not self.ended
 
+    def _is_nested(self) -> bool:
+        """Whether this thread is amid a call already: so in a signal handler, and in what the garbage collector calls."""
+        return self._is_amid and self._asking == threading.get_ident()
+
     def ask(self, line: bytes) -> Dict[str, Any]:
-        """The answer to a line."""
+        """The answer to a line. A `RuntimeError` where a signal handler asks while the call that it interrupted waits for its answer."""
+        if self._is_nested():
+            raise RuntimeError("A signal handler asks the program patchsard, while the call that it interrupted waits for its answer")
         with self._lock:
-            self._close_waiting()
-            answer = self._exchange(line)
+            before, self._asking = self._asking, threading.get_ident()
+            try:
+                self._close_waiting()
+                answer = self._exchange(line)
+            finally:
+                self._asking = before
         try:
             return _decoded(answer.decode("utf-8"), 0)[0]
         except (ValueError, StopIteration):
@@ -84,12 +100,14 @@ class Process:
     def close_later(self, number: int) -> None:
         """Closes a registry: now where nobody asks, else before the next call. Never waits for a lock, since the garbage collector calls it."""
         self._to_close.append(number)
-        if not self.ended and self._lock.acquire(blocking=False):
+        if not self.ended and not self._is_nested() and self._lock.acquire(blocking=False):
+            before, self._asking = self._asking, threading.get_ident()
             try:
                 self._close_waiting()
             except ProcessEnded:
                 pass
             finally:
+                self._asking = before
                 self._lock.release()
 
     def _close_waiting(self) -> None:
@@ -97,17 +115,23 @@ class Process:
             self._exchange(b'{"call":"close","registry":%d}\n' % self._to_close.popleft())
 
     def _exchange(self, line: bytes) -> bytes:
+        if self._is_amid and not self.ended:
+            # A call before this one was interrupted, and its answer would be taken for that of this one.
+            self._end()
         if self.ended:
             raise ProcessEnded("The program patchsard has ended")
         try:
-            self.asked = True
+            self._is_amid = self.asked = True
             written = os.write(self._input, line)
             if written < len(line):
                 rest = memoryview(line)[written:]
                 while rest:
                     rest = rest[os.write(self._input, rest) :]
             answer = os.read(self._output, _MOST)
-            return answer if answer[-1:] == b"\n" else self._read_on(answer)
+            if answer[-1:] != b"\n":
+                answer = self._read_on(answer)
+            self._is_amid = False
+            return answer
         except BaseException as error:
             # What is half written or unread would be taken for part of the next call.
             self._end()
@@ -126,11 +150,13 @@ class Process:
     def _end(self) -> None:
         self.ended = True
         self._close_pipes()
-        try:
-            self._popen.wait(0.2)
-        except subprocess.TimeoutExpired:
-            self._popen.kill()
-            self._popen.wait()
+        for seconds in (0.2, 2):
+            # Each wait has an end, also where an interrupt left a lock of `Popen` taken.
+            try:
+                self._popen.wait(seconds)
+                return
+            except subprocess.TimeoutExpired:
+                self._popen.kill()
 
     def _close_pipes(self) -> None:
         for pipe in (self._popen.stdin, self._popen.stdout):
@@ -142,9 +168,13 @@ class Process:
 
     def stop(self) -> None:
         """Ends the process: a thread that asks it gets `ProcessEnded`."""
+        if self._is_nested():
+            self._popen.kill()
+            return
         if not self._lock.acquire(timeout=0.2):
             self._popen.kill()
-            self._lock.acquire()
+            if not self._lock.acquire(timeout=2):
+                return
         try:
             if not self.ended:
                 self._end()

@@ -4,7 +4,11 @@ from __future__ import annotations
 from typing import Any, Dict, Optional, Type
 
 
-class Unresolvable(Exception):
+class PatchsardError(Exception):
+    """What every exception of this package is."""
+
+
+class Unresolvable(PatchsardError):
     """A reference finds no value.
 
     `ref` is the reference, or the URI of the document that isn't there; `message` is a sentence for people.
@@ -58,17 +62,17 @@ class UnknownSpecification(Unretrievable):
     """A meta-schema that a `$schema` names isn't there."""
 
 
-class RetrievalLimit(Exception):
+class RetrievalLimit(PatchsardError):
     """The documents want more documents than the registry's `limit` allows."""
 
 
-class NotBundled(Exception):
+class NotBundled(PatchsardError):
     """The document can't be written as one with all that it needs. `reason` is the name of what is in the way."""
 
     reason: Optional[str] = None
 
 
-class NoSuchResource(KeyError):
+class NoSuchResource(PatchsardError, KeyError):
     """No document and no identifier of a registry has this URI. A caller's `retrieve` may raise it too."""
 
     def __init__(self, ref: str) -> None:
@@ -76,7 +80,7 @@ class NoSuchResource(KeyError):
         self.ref = ref
 
 
-class CannotDetermineSpecification(Exception):
+class CannotDetermineSpecification(PatchsardError):
     """A document names no draft that is known, and no default was given. `contents` is the document."""
 
     def __init__(self, contents: Any) -> None:
@@ -84,15 +88,15 @@ class CannotDetermineSpecification(Exception):
         self.contents = contents
 
 
-class ProcessEnded(RuntimeError):
+class ProcessEnded(PatchsardError, RuntimeError):
     """The program ended while it was asked. The next registry starts another, and those that were open are opened in it anew."""
 
 
-class ProgramNotFound(RuntimeError):
+class ProgramNotFound(PatchsardError, RuntimeError):
     """The program `patchsard` isn't there."""
 
 
-class CallRefused(ValueError):
+class CallRefused(PatchsardError, ValueError):
     """The program takes a call, or a document in it, for malformed. `name` is the name of the error in the protocol; `field` is the member of the call that it is about,
     `index` the number of the item there, and `offset` the byte of the line, where the program says them.
     """
@@ -102,8 +106,12 @@ class CallRefused(ValueError):
     offset: Optional[int] = None
 
     def __init__(self, name: str, message: str) -> None:
-        super().__init__(f"{name}: {message}")
+        super().__init__(name, message)
         self.name = name
+        self.message = message
+
+    def __str__(self) -> str:
+        return f"{self.name}: {self.message}"
 
 
 _OF_REFERENCES: Dict[str, Type[Unresolvable]] = {

@@ -27,7 +27,8 @@ def lookup_recursive_ref(resolver: Resolver) -> Resolved:
 def validator_for(schema: Any, *, registry: Any = None, retrieve: Optional[Callable[[str], Any]] = None, default: Any = None, **options: Any) -> Any:
     """A validator of Python's `jsonschema`, version 4.18 or later, whose references the program resolves.
 
-    `registry` is a `Registry` or one of Python's `referencing`, `retrieve` a function as a `Registry` takes it, `default` the class for a schema without
+    `registry` is a `Registry` or one of Python's `referencing`, `retrieve` a function as a `Registry` takes it, whose documents without `$schema` have the draft of the
+    validator, `default` the class for a schema without
     `$schema`, and further options, such as `format_checker`, are those of the class. A reference to a document that isn't there is an error where it is followed.
     """
     import jsonschema.validators
@@ -36,17 +37,17 @@ def validator_for(schema: Any, *, registry: Any = None, retrieve: Optional[Calla
         kind = jsonschema.validators.validator_for(schema)
     else:
         kind = jsonschema.validators.validator_for(schema, default=default)
+    dialect = (kind.ID_OF(kind.META_SCHEMA) or "").rstrip("#")
+    if dialect == "http://json-schema.org/draft-03/schema":
+        raise ValueError("Draft 3 isn't known")
+    draft = specification_with(dialect, DRAFT202012)
     if registry is None:
-        registry = Registry(retrieve=retrieve)
+        registry = Registry(retrieve=retrieve, draft=draft)
     elif retrieve is not None:
         raise ValueError("Either registry or retrieve: a registry has its own function to retrieve")
     elif not isinstance(registry, Registry):
         held = registry
         registry = Registry(retrieve=lambda uri: held.get_or_retrieve(uri).value)
-    dialect = (kind.ID_OF(kind.META_SCHEMA) or "").rstrip("#")
-    if dialect == "http://json-schema.org/draft-03/schema":
-        raise ValueError("Draft 3 isn't known")
-    draft = specification_with(dialect, DRAFT202012)
     resource = Resource(schema, draft)
     own = registry._with_root(resource)
     own._allow_missing = True

@@ -1,6 +1,7 @@
 """One process for all registries: threads, its end, forks, and where the program is."""
 import gc
 import os
+import pickle
 import shutil
 import signal
 import subprocess
@@ -85,6 +86,80 @@ class OneProcess(unittest.TestCase):
             with self.assertRaises(KeyboardInterrupt):
                 resolver.lookup("#/$defs/2")
         self.assertIs(resolver.lookup("#/$defs/3").contents, SCHEMA["$defs"]["3"])
+
+    def test_a_call_that_is_interrupted_twice(self):
+        resolver = registry().resolver("https://example.com/a")
+        resolver.lookup("#/$defs/1")
+        with mock.patch.object(_process.os, "read", side_effect=KeyboardInterrupt), mock.patch.object(_process.Process, "_end", side_effect=KeyboardInterrupt):
+            with self.assertRaises(KeyboardInterrupt):
+                resolver.lookup("#/$defs/2")
+        with self.assertRaises(patchsard.ProcessEnded):
+            resolver.lookup("#/$defs/3")
+        self.assertIs(resolver.lookup("#/$defs/4").contents, SCHEMA["$defs"]["4"])
+
+    def amid(self, does):
+        """The answer to a look-up while which `does` is called, as a signal handler or the garbage collector would."""
+        resolver = registry().resolver("https://example.com/a")
+        resolver.lookup("#/$defs/1")
+        read, done = os.read, []
+
+        def interrupted(file, size):
+            if not done:
+                done.append(file)
+                does(resolver)
+            return read(file, size)
+
+        with mock.patch.object(_process.os, "read", interrupted):
+            self.assertIs(resolver.lookup("#/$defs/2").contents, SCHEMA["$defs"]["2"])
+        self.assertTrue(done)
+        self.assertIs(resolver.lookup("#/$defs/3").contents, SCHEMA["$defs"]["3"])
+
+    def test_a_signal_handler_that_asks(self):
+        def asks(resolver):
+            with self.assertRaisesRegex(RuntimeError, "signal handler"):
+                resolver.lookup("#/$defs/4")
+
+        self.amid(asks)
+
+    def test_the_garbage_collector_amid_a_call(self):
+        other = registry().crawl()
+
+        def closes(_):
+            other.close()
+
+        self.amid(closes)
+        self.assertEqual(len(_process.shared()._to_close), 0)
+
+    def test_no_wait_is_without_end(self):
+        resolver = registry().resolver("https://example.com/a")
+        resolver.lookup("#/$defs/1")
+        ended = []
+
+        def interrupted():
+            with mock.patch.object(_process.os, "read", side_effect=KeyboardInterrupt), self.assertRaises(KeyboardInterrupt):
+                resolver.lookup("#/$defs/2")
+            ended.append(True)
+
+        with _process.shared()._popen._waitpid_lock:
+            thread = threading.Thread(target=interrupted, daemon=True)
+            thread.start()
+            thread.join(20)
+        self.assertEqual(ended, [True])
+        self.assertIs(resolver.lookup("#/$defs/3").contents, SCHEMA["$defs"]["3"])
+
+    def test_exceptions_go_to_other_processes(self):
+        errors = [
+            patchsard.CallRefused("NotJson", "The line is no JSON"), patchsard.CannotDetermineSpecification({"a": 1}), patchsard.InvalidUri("a b", "no URI"), patchsard.NoSuchResource("u:a"),
+            patchsard.NotBundled("no"), patchsard.ProcessEnded("ended"), patchsard.ProgramNotFound("none"), patchsard.RetrievalLimit("10"), patchsard.Unretrievable("u:b", "not there"),
+        ]
+        for error in errors:
+            error.uri, error.offset = "u:c", 3
+            other = pickle.loads(pickle.dumps(error))
+            self.assertIs(type(other), type(error))
+            self.assertIsInstance(other, patchsard.PatchsardError)
+            self.assertEqual((str(other), other.args, vars(other)), (str(error), error.args, vars(error)))
+        kinds = [it for it in vars(patchsard.exceptions).values() if isinstance(it, type) and issubclass(it, Exception)]
+        self.assertEqual([it for it in kinds if not issubclass(it, patchsard.PatchsardError)], [])
 
     @unittest.skipUnless(hasattr(os, "fork"), "no fork")
     def test_a_fork_has_its_own(self):

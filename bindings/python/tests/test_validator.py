@@ -43,6 +43,11 @@ class Validators(unittest.TestCase):
         with self.assertRaises(ValueError):
             validator_for({"$schema": "http://json-schema.org/draft-03/schema#"})
 
+    def test_the_draft_of_what_is_retrieved(self):
+        part = {"definitions": {"a": {"$id": "#name", "type": "string"}}, "$ref": "#name"}
+        old = {"$schema": DRAFT7.uri, "$id": "https://example.com/a", "$ref": "b"}
+        self.assertEqual([validator_for(old, retrieve=lambda uri: part).is_valid(it) for it in ("a", 1)], [True, False])
+
     def test_meta_schemas(self):
         for uri in ("https://json-schema.org/draft/2020-12/schema", "https://json-schema.org/draft/2019-09/schema", "http://json-schema.org/draft-07/schema#"):
             validator = validator_for({"$schema": uri, "allOf": [{"$ref": uri}]})
