@@ -7,8 +7,11 @@ mod serve;
 
 use clap::ArgMatches;
 use ref_bundle_files::bundle;
+use ref_messages::PlainBytes;
 use ref_project::{graph, lint, places, resolve};
-use ref_reading::{Console, Stop, command, console, say};
+use ref_reading::{Console, Stop, command, console};
+use simdutf8::compat::from_utf8;
+use std::env::{Env, FillError};
 use std::process::ExitCode;
 use std::{env, io};
 
@@ -26,24 +29,46 @@ fn words_of(rt: &HostRuntime) -> Result<Vec<String>, Stop> {
         Ok(words) => Ok(without_help_of_help(words.collect(rt.alloc())?)),
         Err(error) if error.kind() == io::ErrorKind::OutOfMemory => Err(Stop::Memory),
         Err(_) => {
-            say(rt, "an argument is not UTF-8");
+            say_other_arguments(rt);
             Err(Stop::Reported)
         }
+    }
+}
+
+// Says which arguments are no UTF-8, each as far as its first 4,096 bytes.
+fn say_other_arguments(rt: &HostRuntime) {
+    let mut buffer = [0u8; 4096];
+    for number in 1..usize::MAX {
+        match rt.arg(number, &mut buffer) {
+            Ok(length) => say_other_argument(rt, buffer.get(..length).unwrap_or(&[])),
+            Err(FillError::NotPresent) => break,
+            Err(FillError::TooLong) => say_other_argument(rt, &buffer),
+        }
+    }
+}
+
+// Says that an argument is no UTF-8, where it isn't.
+fn say_other_argument(rt: &HostRuntime, bytes: &[u8]) {
+    if from_utf8(bytes).is_err() {
+        let _ = eprintln!(rt; "patchsard: {}: an argument that is not UTF-8", PlainBytes(bytes));
     }
 }
 
 // The words without one after `help` that asks for the help of it.
 fn without_help_of_help(mut words: Vec<String>) -> Vec<String> {
     if asks_for_help_of_help(words.as_slice()) {
-        words.truncate(2);
+        words.truncate(words.len().saturating_sub(1));
     }
     words
 }
 
 fn asks_for_help_of_help(words: &[String]) -> bool {
     match words {
-        [_, first, second] => {
-            first.as_str() == "help" && matches!(second.as_str(), "help" | "--help" | "-h")
+        [_, first, second] if first.as_str() == "help" => {
+            matches!(second.as_str(), "help" | "--help" | "-h")
+        }
+        [_, first, _, last] if first.as_str() == "help" => {
+            matches!(last.as_str(), "--help" | "-h")
         }
         _ => false,
     }

@@ -18,3 +18,4 @@ pub mod Surveys
 pub mod Dynamic
 pub mod Nulls
 pub mod Descriptions
+pub mod Guessing

@@ -22,6 +22,8 @@ source_of s = record { uri = s.uri; tree = option_map (λ v. view v.now) s.value
 abbrev pub level_of : rust_problem.Problem → Level
 level_of problem.NotChecked = Warning
 level_of problem.NamesNothing = Note
+level_of (problem.GuessedDraft draft by) = Note
+level_of problem.ListOfItems = Note
 level_of (problem.Unchecked uri) = Note
 level_of (problem.UnknownDialect uri) = Note
 level_of other = Error
@@ -44,6 +46,9 @@ IsProblemOf (problem.DuplicateIdentifier uri first)
     (uri.value ≡ text) × (first.source ≡ source) × (map part_of first.path.items ≡ path)
 IsProblemOf (problem.DuplicateAnchor uri first) (findings.DuplicateAnchor text source path) =
     (uri.value ≡ text) × (first.source ≡ source) × (map part_of first.path.items ≡ path)
+IsProblemOf (problem.GuessedDraft draft by) (findings.GuessedDraft named source path) =
+    (draft ≡ named) × (by.source ≡ source) × (map part_of by.path.items ≡ path)
+IsProblemOf problem.ListOfItems findings.ListOfItems = ⊤
 IsProblemOf other problem = ⊥
 
 -- a finding of the program says the finding

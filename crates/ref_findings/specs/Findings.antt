@@ -22,10 +22,12 @@ use Rattle.ref_definitions.specs.Fault as fault
 use Rattle.ref_definitions.specs.Fault.{Fault}
 use Rattle.ref_definitions.specs.Lookup.{Found, lookup}
 use Rattle.ref_findings.specs.Places.{nearest_base, dynamic_keyword}
-use Rattle.ref_findings.specs.Sources.{Source, read_document, world_of, unread_uris}
+use Rattle.ref_findings.specs.Sources.{Source, places_in, read_document, world_of, unread_uris}
+use Rattle.ref_findings.specs.Guessed.{is_guessed, uris_referred, referrer, has_item_list}
 use Rattle.ref_findings.specs.Bearers.{Site, sites, source_uri, uris_borne, names_borne, first_under, other_bearer, in_source, begins_with_slash}
 
--- what is wrong, or is noted; a duplicate has the number of the source and the path of the first place that has the text
+-- what is wrong, or is noted; a duplicate has the number of the source and the path of the first place that has the text, and
+-- a guessed draft the draft, the source and the path of the first place that refers to the document
 pub data Problem : Type 0 where
   NotJson : Problem
   NotChecked : Problem
@@ -39,6 +41,8 @@ pub data Problem : Type 0 where
   UnknownDialect : List ℕ → Problem
   DuplicateIdentifier : List ℕ → ℕ → List Part → Problem
   DuplicateAnchor : List ℕ → ℕ → List Part → Problem
+  GuessedDraft : Draft → ℕ → List Part → Problem
+  ListOfItems : Problem
 
 -- a finding: the number of the source, the path of the place, the keyword there and the text under it, and what is wrong
 pub record Finding : Type 0 where
@@ -331,7 +335,51 @@ known_of draft sources held = record {
   names = names_borne (sites draft sources);
 }
 
--- All findings: those of sources as a whole, and then those at the places of these that are JSON
+-- that a document is read by a guessed draft, and a place of another one refers to it
+abbrev pub guessed_draft : ℕ → Site → Finding
+guessed_draft number s =
+    record {
+      source = number;
+      path = [];
+      keyword = None;
+      text = None;
+      problem = GuessedDraft s.1.draft s.0 s.1.path;
+    }
+
+-- that a place has a list under `items`
+abbrev pub list_of_items : ℕ → Place → Finding
+list_of_items number p =
+    record {
+      source = number;
+      path = p.path;
+      keyword = Some (codes "items");
+      text = None;
+      problem = ListOfItems;
+    }
+
+-- the notes on a document whose draft is guessed: on the first place that refers to it, and on its first list under `items`
+abbrev pub guesses_in : Draft → List Site → List (Entry ℕ) → ℕ → Source → Data → List Finding
+guesses_in draft sites referred number s tree =
+    if is_guessed tree then
+    option_to_list (option_map (guessed_draft number) (referrer draft sites referred s.uri tree))
+    ++ option_to_list (option_map (list_of_items number) (find has_item_list (places_in draft s)))
+    else []
+
+-- those on a source
+abbrev pub guesses_of : Draft → List Site → List (Entry ℕ) → ℕ × Source → List Finding
+guesses_of draft sites referred e =
+    option_map_or (guesses_in draft sites referred e.0 e.1) e.1.tree []
+
+-- those on all sources
+abbrev pub guesses : Draft → List Source → List Finding
+guesses draft sources =
+    flat_map
+    (guesses_of draft (sites draft sources) (uris_referred draft (sites draft sources)))
+    (enumerate_from 0 sources)
+
+-- All findings: those of sources as a whole, those at the places of these that are JSON, and then the notes on guessed drafts
 abbrev pub findings : Draft → List Source → List Source → List Finding
 findings draft sources held =
-    sources_findings sources ++ place_findings (known_of draft sources held) (sites draft sources)
+    (sources_findings sources
+    ++ place_findings (known_of draft sources held) (sites draft sources))
+    ++ guesses draft sources

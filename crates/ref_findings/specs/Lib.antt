@@ -3,6 +3,7 @@ pub mod Places
 pub mod Mending
 pub mod Bearers
 pub mod Findings
+pub mod Guessed
 pub mod Entries
 pub mod Gathered
 pub mod Held

@@ -20,8 +20,8 @@ use ref_uri::Uri;
 use std::alloc::{AllocError, Global};
 use std::rc::Rc;
 
-// The entries of a table: two texts, and the number of a place.
-type Entries = Vec<(String, String, usize)>;
+/// The entries of a table: two texts, and the number of a place.
+pub(crate) type Entries = Vec<(String, String, usize)>;
 
 /// The URI that a place has by its own identifier, where that means one.
 pub(crate) fn own_uri(alloc: Global, place: &Place<'_>) -> Result<Option<Rc<Uri>>, AllocError>
@@ -67,8 +67,8 @@ fn push(
     Ok(())
 }
 
-// Adds an entry of a URI, where there is one.
-fn push_uri(
+/// Adds an entry of a URI, where there is one.
+pub(crate) fn push_uri(
     alloc: Global,
     entries: &mut Entries,
     uri: Option<&Rc<Uri>>,
@@ -146,8 +146,8 @@ fn push_names(
     }
 }
 
-// The table of entries, of which the first under two texts counts: they are put in from the last on.
-fn table_of(alloc: Global, entries: Entries) -> Result<SortedTable<usize>, AllocError>
+/// The table of entries, of which the first under two texts counts: they are put in from the last on.
+pub(crate) fn table_of(alloc: Global, entries: Entries) -> Result<SortedTable<usize>, AllocError>
     ensures { IfOk result (λ table. table ≡ reverse (entries_of entries.items)) }
 {
     let mut entries = entries;

@@ -7,7 +7,7 @@ ghost use Rattle.ref_draft.specs.declared.draft.Draft.TheVariants.{Draft7, Draft
 ghost use Rattle.ref_uri.specs.Targets.{parse_refusal};
 ghost use Rattle.ref_definitions.specs.Fault.{PointerToNowhere, NoSuchAnchor};
 ghost use Rattle.ref_definitions.specs.Rows.{yes, text, empty, one, two, pair};
-ghost use Rattle.ref_findings.specs.Findings.{findings, references, NotJson, NotChecked, NotAText, RecursiveElsewhere, NamesNothing, InvalidUri, MissingDocument, LeadsNowhere, Unchecked, UnknownDialect, DuplicateIdentifier, DuplicateAnchor};
+ghost use Rattle.ref_findings.specs.Findings.{findings, references, NotJson, NotChecked, NotAText, RecursiveElsewhere, NamesNothing, InvalidUri, MissingDocument, LeadsNowhere, Unchecked, UnknownDialect, DuplicateIdentifier, DuplicateAnchor, GuessedDraft, ListOfItems};
 ghost use Rattle.ref_findings.specs.Rows.{source, unread_source, finding_on, finding_without_text, finding_whole};
 
 /// What is wrong with references.
@@ -128,6 +128,47 @@ pub fn one_identifier()
         ∷ [] }
     ensures pointer { findings Draft7 (source "http://a/r" (one "$id" (text "#/x")) ∷ []) []
         ≡ finding_on 0 [] "$id" "#/x" NamesNothing ∷ [] }
+{}
+
+/// Documents whose draft is guessed.
+pub fn guessed_drafts()
+    ensures referred { findings Draft202012
+        (source "http://a/r"
+        (two "$ref" (text "s") "$schema" (text "http://json-schema.org/draft-07/schema#"))
+        ∷ source "http://a/s" empty ∷ [])
+        []
+        ≡ finding_whole 1 (GuessedDraft Draft7 0 []) ∷ [] }
+    ensures by_its_identifier { findings Draft202012
+        (source "http://a/r"
+        (two "$ref" (text "http://b/x") "$schema" (text "http://json-schema.org/draft-07/schema#"))
+        ∷ source "http://a/s" (one "$id" (text "http://b/x")) ∷ [])
+        []
+        ≡ finding_whole 1 (GuessedDraft Draft7 0 []) ∷ [] }
+    ensures of_the_same_draft { findings Draft7
+        (source "http://a/r"
+        (two "$ref" (text "s") "$schema" (text "http://json-schema.org/draft-07/schema#"))
+        ∷ source "http://a/s" empty ∷ [])
+        []
+        ≡ [] }
+    ensures named { findings Draft202012
+        (source "http://a/r"
+        (two "$ref" (text "s") "$schema" (text "http://json-schema.org/draft-07/schema#"))
+        ∷ source "http://a/s" (one "$schema" (text "http://json-schema.org/draft-06/schema#"))
+        ∷ [])
+        []
+        ≡ [] }
+    ensures list_of_items { findings Draft202012
+        (source "http://a/r" (one "not" (one "items" (pair yes yes))) ∷ []) []
+        ≡ finding_without_text 0 (Key (codes "not") ∷ []) "items" ListOfItems ∷ [] }
+    ensures one_of_two_lists { findings Draft202012
+        (source "http://a/r" (two "items" (pair yes yes) "not" (one "items" (pair yes yes)))
+        ∷ [])
+        []
+        ≡ finding_without_text 0 [] "items" ListOfItems ∷ [] }
+    ensures items_of_2019 { findings Draft201909
+        (source "http://a/r" (one "items" (pair yes yes)) ∷ []) []
+        ≡ [] }
+    ensures one_schema { findings Draft202012 (source "http://a/r" (one "items" yes) ∷ []) [] ≡ [] }
 {}
 
 /// Names of meta-schemas.

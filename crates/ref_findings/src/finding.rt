@@ -4,6 +4,7 @@ ghost use Rattle.serde_json.specs.View.{view};
 ghost use Rattle.ref_draft.specs.Schema.{text_under};
 ghost use Rattle.ref_findings.specs.Entries.{level_of};
 
+use ref_draft::Draft;
 use ref_error::Error;
 use ref_parts::path::JsonPointerSegment;
 use ref_uri::{Uri, UriError};
@@ -99,9 +100,20 @@ pub enum Problem<'v> {
         /// The first place that has the name.
         first: Bearer<'v>,
     },
+    /// A note: the root of the source has no `$schema`, so that it is read by the draft of those that have none, and a place of
+    /// another draft refers to it.
+    GuessedDraft {
+        /// The draft of that place.
+        draft: Draft,
+        /// The first such place.
+        by: Bearer<'v>,
+    },
+    /// A note: the root of the source has no `$schema`, it is read as 2020-12, where `items` is one schema (2020-12 Core, 10.3.1.2),
+    /// and this is the first place with a list there.
+    ListOfItems,
 }
 
-/// A place that has a URI or the name of an anchor.
+/// A place that has a URI or the name of an anchor, or that refers to a document.
 #[derive(Drop)]
 pub struct Bearer<'v> {
     /// The number of its source, counted from 0.
@@ -117,7 +129,8 @@ impl Problem<'_> {
     {
         match self {
             Problem::NotChecked => Level::Warning,
-            Problem::NamesNothing => Level::Note,
+            Problem::NamesNothing | Problem::ListOfItems => Level::Note,
+            Problem::GuessedDraft { .. } => Level::Note,
             Problem::Unchecked { .. } | Problem::UnknownDialect { .. } => Level::Note,
             _ => Level::Error,
         }

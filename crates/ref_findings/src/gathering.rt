@@ -123,8 +123,8 @@ impl Wants {
     }
 }
 
-// The URI that the reference of a place points into, where it has one that means a URI.
-fn referred(alloc: Global, place: &Place<'_>) -> Result<Option<Rc<Uri>>, AllocError>
+/// The URI that the reference of a place points into, where it has one that means a URI.
+pub(crate) fn referred(alloc: Global, place: &Place<'_>) -> Result<Option<Rc<Uri>>, AllocError>
     ensures { IfOk result
         (λ uri. option_map (λ u. u.value) uri ≡ referred_uri (place_of place.now)) }
 {

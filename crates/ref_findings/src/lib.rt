@@ -12,6 +12,7 @@ pub mod examples;
 mod fault;
 mod finding;
 mod gathering;
+mod guessed;
 mod keyword;
 mod known;
 mod list;

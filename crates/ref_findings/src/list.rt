@@ -20,6 +20,7 @@ ghost use Rattle.serde_json.specs.View.{view};
 use crate::base::nearest_base;
 use crate::bearers::{Bearers, names_of, own_uri, source_uri, unread_of, uris_of};
 use crate::finding::{Finding, Problem, Report, text_under};
+use crate::guessed::add_guesses;
 use crate::keyword::{Keyword, keyword_at};
 use crate::known::Known;
 use crate::site::Site;
@@ -630,6 +631,8 @@ fn surveyed<'m, 'v: 'm>(
 /// its identifier means no URI, or that of an earlier place; that its `$ref` is no text, means no URI or is unresolvable; the same
 /// of its `$dynamicRef` or `$recursiveRef`, where its draft has one; that its `$schema` means no URI, or no dialect that is
 /// known; and that each of its anchors begins with a slash, or has the name of an earlier place of its source with the same base.
+/// Last come notes on sources whose root has no `$schema`, source by source: that a place of another known draft than `draft` is
+/// the first that refers to it by its URI or its root's identifier, and that a place read as 2020-12 is its first with a list under `items`.
 ///
 /// What means no URI counts as `null`: all else of its document is read, and below an identifier that means none the base stays
 /// that of the place around it. A document that is no JSON has no places; a reference to its URI is not listed. Where several
@@ -653,14 +656,23 @@ pub fn report<'v>(
     let surveys = surveys_of(alloc, draft, sources)?;
     let others = surveys_of(alloc, draft, held)?;
     let bearers = bearers_of(alloc, sources, held, surveys.as_slice())?;
-    surveyed(
+    let mut report = surveyed(
         alloc,
         draft,
         sources,
         surveys.as_slice(),
         others.as_slice(),
         &bearers,
-    )
+    )?;
+    let sites = bearers.sites.as_slice();
+    add_guesses(
+        alloc,
+        draft,
+        &mut report.findings,
+        surveys.as_slice(),
+        sites,
+    )?;
+    Ok(report)
 }
 
 /// Of each source that is JSON and has an identifier, a `$ref` or a `$schema` that means no URI, the tree that is read in place

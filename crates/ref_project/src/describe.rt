@@ -6,6 +6,7 @@ use crate::resources::Resources;
 use crate::rules::code_of;
 use crate::spots::{Spots, first_of, spots_of};
 use crate::suggestions::suggestion;
+use ref_draft::Draft;
 use ref_error::Error;
 use ref_findings::{Bearer, Finding, Level as Severity, Problem};
 use ref_messages::{Level, Message, Other, Suggester};
@@ -157,6 +158,11 @@ impl<'l, 'd> Describer<'l, 'd> {
                 ["Two schemas have the identifier '", uri.as_str(), "'"].join(alloc, "")
             }
             Problem::DuplicateAnchor { uri, .. } => anchor_text(alloc, uri, finding.text),
+            Problem::GuessedDraft { draft, .. } => referred_text(alloc, self.given.draft, *draft),
+            Problem::ListOfItems => String::from_str(
+                alloc,
+                "The file names no draft and is read as Draft 2020-12, where items is one schema, not a list",
+            ),
         }
     }
 
@@ -214,11 +220,28 @@ impl<'l, 'd> Describer<'l, 'd> {
         )
     }
 
-    // What to do where a document is missing.
+    // What to do where a document is missing, or a draft is guessed.
     fn help(&mut self, finding: &Finding<'_>) -> Result<Option<String>, AllocError> {
-        let Problem::MissingDocument { uri } = &finding.problem else {
-            return Ok(None);
-        };
+        match &finding.problem {
+            Problem::MissingDocument { uri } => self.help_to_find(finding, uri),
+            Problem::GuessedDraft { draft, .. } => {
+                let help = ["--draft ", draft.name(), ", or a $schema in the file"];
+                Ok(Some(help.join(self.alloc, "")?))
+            }
+            Problem::ListOfItems => {
+                let help = "--draft with an earlier draft, or a $schema in the file";
+                Ok(Some(String::from_str(self.alloc, help)?))
+            }
+            _ => Ok(None),
+        }
+    }
+
+    // What to do where a document is missing.
+    fn help_to_find(
+        &mut self,
+        finding: &Finding<'_>,
+        uri: &Uri,
+    ) -> Result<Option<String>, AllocError> {
         if let Some(document) = self.given.documents.get(finding.source) {
             if let Some(path) = beside(self.rt, document, uri.as_str())? {
                 return Ok(Some(["--with ", path.as_str()].join(self.alloc, "")?));
@@ -299,6 +322,18 @@ fn level_of(problem: &Problem<'_>) -> Level {
         Severity::Warning => Level::Warning,
         Severity::Note => Level::Note,
     }
+}
+
+// That a file is read by a draft that is guessed, and a schema of another one refers to it.
+fn referred_text(alloc: Global, guessed: Draft, draft: Draft) -> Result<String, AllocError> {
+    [
+        "The file names no draft and is read as Draft ",
+        guessed.name(),
+        ", but a schema of Draft ",
+        draft.name(),
+        " refers to it",
+    ]
+    .join(alloc, "")
 }
 
 // That a file is a description, by the keyword at its root and its version.

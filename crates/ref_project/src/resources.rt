@@ -36,8 +36,8 @@ impl Resource<'_> {
     }
 }
 
-// How many letters the names of two URIs in one folder are apart, where they are few. The ends that both names have don't
-// count: a name of one or two letters before `.json` is close to any other.
+// How many letters two URIs are apart, where they are few and in one name alone: that of a folder, or that of a file. The ends that both names of
+// files have don't count: a name of one or two letters before `.json` is close to any other.
 fn distance(
     alloc: Global,
     suggester: &mut Suggester,
@@ -45,9 +45,21 @@ fn distance(
     uri: &str,
 ) -> Result<Option<usize>, AllocError> {
     let (name, other) = tails(wanted, uri);
-    if name.contains('/') || other.contains('/') {
-        return Ok(None);
+    match (name.split_once('/'), other.split_once('/')) {
+        (None, None) => distance_of_files(alloc, suggester, name, other),
+        (Some((name, below)), Some((other, below_other))) if below == below_other => {
+            suggester.distance(alloc, name, other)
+        }
+        _ => Ok(None),
     }
+}
+
+fn distance_of_files(
+    alloc: Global,
+    suggester: &mut Suggester,
+    name: &str,
+    other: &str,
+) -> Result<Option<usize>, AllocError> {
     match (name.strip_suffix(".json"), other.strip_suffix(".json")) {
         (Some(name), Some(other)) => suggester.distance(alloc, name, other),
         _ => suggester.distance(alloc, name, other),
@@ -87,7 +99,7 @@ impl<'d> Resources<'d> {
         self.list.get(*self.numbers.get(uri)?)
     }
 
-    /// The URI whose name is the fewest letters away from that of another in the same folder, of several the first, or that
+    /// The URI that is the fewest letters away from another, in the name of its file or of one folder, of several the first, or that
     /// differs from the other in its cases alone.
     pub fn close_uri(
         &self,

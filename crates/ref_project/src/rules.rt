@@ -14,6 +14,10 @@ pub const RULES: &[Rule] = &[
         text: "The file is an API description, whose references are not checked",
     },
     Rule {
+        code: "guessed-draft",
+        text: "The file names no draft, and is read by another one than it may be meant for",
+    },
+    Rule {
         code: "invalid-uri",
         text: "The text of an identifier, a reference or a $schema is not a valid URI reference",
     },
@@ -86,6 +90,7 @@ pub fn code_of(problem: &Problem<'_>) -> &'static str {
         Problem::UnknownDialect { .. } => "unknown-dialect",
         Problem::DuplicateIdentifier { .. } => "duplicate-identifier",
         Problem::DuplicateAnchor { .. } => "duplicate-anchor",
+        Problem::GuessedDraft { .. } | Problem::ListOfItems => "guessed-draft",
     }
 }
 

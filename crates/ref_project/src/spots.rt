@@ -144,16 +144,20 @@ impl Asked {
         let Some(bearer) = first_of(&finding.problem) else {
             return Ok(0);
         };
-        let keyword = keyword_of(documents, bearer, finding.keyword);
+        let keyword = match finding.problem {
+            Problem::GuessedDraft { .. } => Some("$ref"),
+            _ => keyword_of(documents, bearer, finding.keyword),
+        };
         self.ask(bearer.source, bearer.path.as_slice(), keyword)
     }
 }
 
-/// The first bearer that a problem is a clash with.
+/// The first bearer that a problem is a clash with, or the first place that refers to a document.
 pub fn first_of<'f, 'v>(problem: &'f Problem<'v>) -> Option<&'f Bearer<'v>> {
     match problem {
         Problem::DuplicateIdentifier { first, .. } => Some(first),
         Problem::DuplicateAnchor { first, .. } => Some(first),
+        Problem::GuessedDraft { by, .. } => Some(by),
         _ => None,
     }
 }
