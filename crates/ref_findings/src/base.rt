@@ -1,9 +1,7 @@
 //! The URIs that the texts of a place mean.
-ghost use Rattle.std.specs.Prelude.{◌≡◌, IfOk, None, option_map};
+ghost use Rattle.std.specs.Prelude.{◌≡◌, IfOk, None};
 ghost use Rattle.ref_uri.specs.Reference.{with_fragment};
 ghost use Rattle.ref_uri.specs.Targets.{uri_against, target};
-ghost use Rattle.ref_definitions.specs.Places.{base_within};
-ghost use Rattle.ref_findings.specs.Places.{nearest_of};
 ghost use Rattle.ref_findings.specs.inner.Meanings.{meta_schema_uri, IsMeaning};
 
 use ref_index::shared;
@@ -24,41 +22,6 @@ pub(crate) fn resolved(alloc: Global, base: &Rc<Uri>, text: &str) -> Result<Mean
         Ok(uri) => Ok(Ok(shared(alloc, uri)?)),
         Err(UriFault::Invalid(error)) => Ok(Err(error)),
         Err(UriFault::Memory(error)) => Err(error),
-    }
-}
-
-/// The base of a place: its identifier against the base around it, or that base (2020-12 Core, 8.2.1).
-pub(crate) fn base_of(
-    alloc: Global,
-    outer: &Rc<Uri>,
-    id: Option<&str>,
-) -> Result<Meaning, AllocError>
-    ensures value { IfOk result
-        (IsMeaning (base_within outer.now.value (option_map (λ text. text.now) id.entry))) }
-{
-    match id {
-        Some(id) => resolved(alloc, outer, id),
-        None => Ok(Ok(outer.clone()?)),
-    }
-}
-
-/// The base of a place, or the base around it where its identifier means no URI.
-pub(crate) fn nearest_base(
-    alloc: Global,
-    outer: &Rc<Uri>,
-    id: Option<&str>,
-) -> Result<Rc<Uri>, AllocError>
-    ensures value { IfOk result
-        (λ base. base.value
-        ≡ nearest_of outer.now.value
-        (base_within outer.now.value (option_map (λ text. text.now) id.entry))) }
-{
-    match base_of(alloc, outer, id)? {
-        Ok(base) => Ok(base),
-        Err(error) => {
-            drop(error);
-            outer.clone()
-        }
     }
 }
 

@@ -1,14 +1,13 @@
 //! Whether a place has a text that means no URI.
-ghost use Rattle.std.specs.Prelude.{◌≡◌, map, Some, IfOk, option_map};
+ghost use Rattle.std.specs.Prelude.{◌≡◌, map, Some, IfOk};
 ghost use Rattle.std.specs.List.{list_any};
 ghost use Rattle.serde_json.specs.View.{view};
 ghost use Rattle.ref_uri.specs.Targets.{target};
-ghost use Rattle.ref_definitions.specs.Places.{base_within};
 ghost use Rattle.ref_definitions.specs.Wants.{reference_at, schema_at};
 ghost use Rattle.ref_findings.specs.Places.{nearest_base, is_refused, is_faulty};
 ghost use Rattle.ref_findings.specs.inner.Seen.{place_of};
 
-use crate::base::{base_of, meta_schema_uri, nearest_base};
+use crate::base::meta_schema_uri;
 use crate::finding::text_under;
 use crate::place::Place;
 use ref_draft::Draft;
@@ -16,22 +15,6 @@ use ref_uri::parts::uri_part;
 use ref_uri::{Uri, UriRef};
 use serde_json::Value;
 use std::alloc::{AllocError, Global};
-use std::rc::Rc;
-
-// Whether its identifier means no URI.
-fn is_identifier_refused(
-    alloc: Global,
-    outer: &Rc<Uri>,
-    id: Option<&str>,
-) -> Result<bool, AllocError>
-    ensures { IfOk result
-        (λ faulty. faulty
-        ≡ is_refused
-        (Some (base_within outer.now.value (option_map (λ text. text.now) id.entry)))) }
-{
-    let base = base_of(alloc, outer, id)?;
-    Ok(base.is_err())
-}
 
 // Whether a reference means no URI against a base. It isn't resolved: what is a URI reference means a URI against each base.
 fn is_target_refused(base: &Uri, reference: &str) -> bool
@@ -46,11 +29,13 @@ fn is_target_refused(base: &Uri, reference: &str) -> bool
 }
 
 // Whether its reference means no URI.
-fn is_reference_refused(base: &Uri, value: &Value) -> bool
-    ensures { result ≡ is_refused (reference_at base.now (view value.now)) }
+fn is_reference_refused(place: &Place<'_>) -> bool
+    ensures { result
+        ≡ is_refused
+        (reference_at (nearest_base (place_of place.now)) (place_of place.now).value) }
 {
-    match text_under(value, "$ref") {
-        Some(reference) => is_target_refused(base, reference),
+    match place.reference() {
+        Some(reference) => is_target_refused(place.base(), reference),
         None => false,
     }
 }
@@ -86,14 +71,10 @@ pub(crate) fn refused_in(alloc: Global, place: &Place<'_>) -> Result<Refused, Al
     ensures schema { IfOk result
         (λ r. r.schema ≡ is_refused (schema_at (place_of place.now).value)) }
 {
-    let identifier = place.id();
-    let id = is_identifier_refused(alloc, &place.outer, identifier)?;
-    let base = nearest_base(alloc, &place.outer, identifier)?;
-    let reference = is_reference_refused(&base, place.value);
     let schema = is_schema_refused(alloc, place.value)?;
     Ok(Refused {
-        id,
-        reference,
+        id: place.is_identifier_refused(),
+        reference: is_reference_refused(place),
         schema,
     })
 }

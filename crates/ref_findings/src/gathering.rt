@@ -11,8 +11,7 @@ ghost use Rattle.ref_findings.specs.Held.{held_source};
 ghost use Rattle.ref_findings.specs.inner.Seen.{place_of, seen_survey};
 ghost use Rattle.ref_findings.specs.inner.Wanted.{AreMet, Grows, wanted_of, uris_seen, wanted_seen, source_asked, GoesOn};
 
-use crate::base::{meta_schema_uri, nearest_base, target_of};
-use crate::bearers::own_uri;
+use crate::base::{meta_schema_uri, target_of};
 use crate::place::Place;
 use crate::source::Source;
 use crate::survey::{Survey, surveys_of};
@@ -56,12 +55,12 @@ impl Wants {
     }
 
     // Adds that a URI is known, where there is one.
-    fn meet_own(&mut self, uri: Option<Rc<Uri>>) -> Result<(), AllocError>
+    fn meet_own(&mut self, uri: Option<&Rc<Uri>>) -> Result<(), AllocError>
         ensures { OnOk result
-            (Grows self.old self.new (option_to_list (option_map (λ u. u.value) uri)) []) }
+            (Grows self.old self.new (option_to_list (option_map (λ u. u.now.value) uri)) []) }
     {
         match uri {
-            Some(uri) => self.meet(&uri),
+            Some(uri) => self.meet(uri),
             None => Ok(()),
         }
     }
@@ -83,8 +82,7 @@ impl Wants {
             (Grows self.old self.new (option_to_list (own_uri (place_of place.now)))
             (wanted_at (place_of place.now))) }
     {
-        let own = own_uri(alloc, place)?;
-        self.meet_own(own)?;
+        self.meet_own(place.own_uri())?;
         let referred = referred(alloc, place)?;
         self.want(referred)?;
         let dynamic = dynamic(alloc, place)?;
@@ -131,8 +129,7 @@ pub(crate) fn referred(alloc: Global, place: &Place<'_>) -> Result<Option<Rc<Uri
     let Some(reference) = place.reference() else {
         return Ok(None);
     };
-    let base = nearest_base(alloc, &place.outer, place.id())?;
-    let target = target_of(alloc, &base, reference)?;
+    let target = target_of(alloc, place.base(), reference)?;
     Ok(target.ok())
 }
 
@@ -144,8 +141,7 @@ fn dynamic(alloc: Global, place: &Place<'_>) -> Result<Option<Rc<Uri>>, AllocErr
     let Some(reference) = place.dynamic() else {
         return Ok(None);
     };
-    let base = nearest_base(alloc, &place.outer, place.id())?;
-    let target = target_of(alloc, &base, reference)?;
+    let target = target_of(alloc, place.base(), reference)?;
     Ok(target.ok())
 }
 
