@@ -1,13 +1,15 @@
 """References of JSON Schema, resolved by the program patchsard, with the names of Python's `referencing`."""
 from patchsard import exceptions, jsonschema
-from patchsard._core import Dangling, Draft, Registry, Resolved, Resolver, Resource
+from patchsard._core import Anchor, Dangling, Draft, Registry, Resolved, Resolver, Resource, Retrieved
 from patchsard.exceptions import (
     CallRefused,
+    CallTimedOut,
     CannotDetermineSpecification,
     InvalidAnchor,
     InvalidArrayIndex,
     InvalidPercentEncoding,
     InvalidUri,
+    NoInternalID,
     NoSuchAnchor,
     NoSuchResource,
     NotBundled,
@@ -21,8 +23,12 @@ from patchsard.exceptions import (
     Unretrievable,
 )
 
+__version__ = "0.1.0"
+
 __all__ = [
+    "Anchor",
     "CallRefused",
+    "CallTimedOut",
     "CannotDetermineSpecification",
     "Dangling",
     "Draft",
@@ -30,6 +36,7 @@ __all__ = [
     "InvalidArrayIndex",
     "InvalidPercentEncoding",
     "InvalidUri",
+    "NoInternalID",
     "NoSuchAnchor",
     "NoSuchResource",
     "NotBundled",
@@ -42,6 +49,7 @@ __all__ = [
     "Resolver",
     "Resource",
     "RetrievalLimit",
+    "Retrieved",
     "UnknownSpecification",
     "Unresolvable",
     "Unretrievable",

@@ -3,13 +3,17 @@ from __future__ import annotations
 
 import json
 import weakref
-from typing import Any, Callable, Dict, Iterable, Iterator, List, Mapping, NamedTuple, Optional, Sequence, Set, Tuple, Union
+from typing import TYPE_CHECKING, Any, Callable, Dict, Iterable, Iterator, List, Mapping, NamedTuple, Optional, Sequence, Set, Tuple, TypeVar, Union, overload
 
 from patchsard import _process
-from patchsard.exceptions import CannotDetermineSpecification, NoSuchResource, ProcessEnded, Unresolvable, Unretrievable, from_answer
+from patchsard.exceptions import CallRefused, CannotDetermineSpecification, NoInternalID, NoSuchAnchor, NoSuchResource, ProcessEnded, Unresolvable, Unretrievable, from_answer
+
+if TYPE_CHECKING:
+    from typing_extensions import Literal
 
 Schema = Any
 Pairs = Iterable[Tuple[str, Any]]
+_T = TypeVar("_T")
 
 _encode = json.JSONEncoder(separators=(",", ":"), allow_nan=False, ensure_ascii=False).encode
 # After as many documents that were retrieved one at a time, they are looked for ahead.
@@ -18,6 +22,8 @@ _ROUNDS = 4
 _MISSING = object()
 # As many registries may stand behind one another; a longer row is opened as one.
 _DEPTH = 8
+# As many references are asked in one line.
+_MOST_AT_ONCE = 1000
 
 
 class Draft(NamedTuple):
@@ -52,14 +58,37 @@ def _named(contents: Schema) -> Optional[Draft]:
     return _BY_URI.get(uri.rstrip("#")) if isinstance(uri, str) else None
 
 
+class Anchor(NamedTuple):
+    """The name that a schema gives itself. `is_dynamic` says whether it is a dynamic anchor's."""
+
+    name: str
+    resource: "Resource"
+    is_dynamic: bool = False
+
+
 class Resource:
-    """A document, and the draft by which it is read. Where `specification` is `None`, the document's `$schema` says it, or else the registry."""
+    """A document, and the draft by which it is read. Where `specification` is `None`, the document's `$schema` says it, or else the registry. It doesn't change.
+
+    >>> Resource({"$id": "https://example.com/a"}).id()
+    'https://example.com/a'
+    """
 
     __slots__ = ("contents", "specification")
+    contents: Schema
+    specification: Optional[Draft]
 
     def __init__(self, contents: Schema, specification: Optional[Draft] = None) -> None:
-        self.contents = contents
-        self.specification = specification
+        object.__setattr__(self, "contents", contents)
+        object.__setattr__(self, "specification", specification)
+
+    def __setattr__(self, name: str, value: object) -> None:
+        raise AttributeError(f"A Resource doesn't change: {name} can't be set")
+
+    def __delattr__(self, name: str) -> None:
+        raise AttributeError(f"A Resource doesn't change: {name} can't be deleted")
+
+    def __reduce__(self) -> Tuple[Any, ...]:
+        return Resource, (self.contents, self.specification)
 
     @classmethod
     def from_contents(cls, contents: Schema, default_specification: Optional[Draft] = None) -> "Resource":
@@ -71,20 +100,75 @@ class Resource:
 
     def id(self) -> Optional[str]:
         """The identifier that the document gives itself."""
-        draft = self.specification or _named(self.contents) or DRAFT202012
+        draft = self._draft()
         if not isinstance(self.contents, dict):
             return None
-        found = self.contents.get("id" if draft is DRAFT4 else "$id")
+        found = self.contents.get("id" if draft == DRAFT4 else "$id")
         is_old = draft in (DRAFT4, DRAFT6, DRAFT7)
         if not isinstance(found, str) or is_old and ("$ref" in self.contents or found.startswith("#")):
             return None
         return found.rstrip("#")
 
+    def anchors(self) -> Iterator[Anchor]:
+        """The names that the schema gives itself, not those of schemas in it.
+
+        >>> [it.name for it in Resource({"$anchor": "a", "not": {"$anchor": "b"}}).anchors()]
+        ['a']
+        """
+        draft, contents = self._draft(), self.contents
+        if not isinstance(contents, dict):
+            return
+        if draft in (DRAFT4, DRAFT6, DRAFT7):
+            found = contents.get("id" if draft == DRAFT4 else "$id")
+            if isinstance(found, str) and "$ref" not in contents and len(found) > 1 and found[:1] == "#" and found[1] != "/":
+                yield Anchor(found[1:], self)
+            return
+        for keyword in ("$anchor", "$dynamicAnchor")[: 1 if draft == DRAFT201909 else 2]:
+            name = contents.get(keyword)
+            if isinstance(name, str):
+                yield Anchor(name, self, keyword == "$dynamicAnchor")
+
+    def subresources(self) -> "Iterator[Resource]":
+        """The schemas right below this one, by the keywords of its draft, each by its own draft. The program lists them.
+
+        >>> [it.contents for it in Resource({"not": {"not": True}}).subresources()]
+        [{'not': True}]
+        """
+        registry = Registry({"": self}, allow_missing=True)
+        opened = registry._open()
+        below: List[str] = []
+        for it in opened.ask("", "places"):
+            pointer = it["pointer"]
+            if it["document"] == 0 and pointer and not any(pointer.startswith(above + "/") for above in below):
+                below.append(pointer)
+                yield Resource(_at(self.contents, pointer), _BY_NAME.get(it["draft"]))
+
+    def pointer(self, pointer: str, resolver: "Resolver") -> "Resolved":
+        """What a JSON Pointer (RFC 6901) leads to in the document, where `resolver` is at the document.
+
+        >>> resource = Resource({"$defs": {"a": {"type": "string"}}})
+        >>> resource.pointer("/$defs/a", Registry().resolver_with_root(resource)).contents
+        {'type': 'string'}
+        """
+        return resolver.lookup("#" + _fragment(pointer))
+
+    def _draft(self) -> Draft:
+        return self.specification or _named(self.contents) or DRAFT202012
+
     def __eq__(self, other: object) -> bool:
         return isinstance(other, Resource) and (self.contents, self.specification) == (other.contents, other.specification)
 
+    def __hash__(self) -> int:
+        """Equal ones have equal hashes: those of the draft and of the identifier."""
+        return hash((self.specification, self.id()))
+
     def __repr__(self) -> str:
         return f"Resource({self.contents!r}, {self.specification and self.specification.name!r})"
+
+
+def _is_schema(given: Mapping[str, Any]) -> bool:
+    """Whether what is given as documents is a schema by itself: no URI is one of these keywords."""
+    return any(keyword in given for keyword in ("$schema", "$id", "$ref", "$defs", "$anchor")) or isinstance(given.get("type"), (str, list))
 
 
 def _resource(given: Any) -> Resource:
@@ -97,21 +181,25 @@ def _resource(given: Any) -> Resource:
     return Resource(given)
 
 
-def _text(resource: Resource) -> str:
+def _text(uri: str, resource: Resource) -> str:
     """The document as JSON. One that is read by a draft which it doesn't name says so in the text, at the end, where the last mention counts."""
     contents, draft = resource.contents, resource.specification
     try:
         text = _encode(contents)
+        has_texts = _has_text_keys(contents)
     except RecursionError:
-        raise ValueError("The document nests too deep") from None
-    _check_keys(contents)
-    if draft is not None and isinstance(contents, dict) and contents and _named(contents) is not draft:
+        raise ValueError(f"The document {uri!r} nests too deep") from None
+    except (TypeError, ValueError) as error:
+        raise _located(uri, contents) or error from None
+    if not has_texts:
+        raise _located(uri, contents) or TypeError(f"The document {uri!r} has a key that is no text")
+    if draft is not None and isinstance(contents, dict) and contents and _named(contents) != draft:
         return f'{text[:-1]},"$schema":"{draft.uri}"}}'
     return text
 
 
-def _check_keys(contents: Schema) -> None:
-    """A TypeError where the keys of an object are no texts: `json` would make some of them texts."""
+def _has_text_keys(contents: Schema) -> bool:
+    """Whether the keys of all objects are texts: `json` would make some others texts."""
     waiting = [contents]
     for value in waiting:
         kind = type(value)
@@ -120,10 +208,41 @@ def _check_keys(contents: Schema) -> None:
         if kind is dict or isinstance(value, dict):
             for key in value:
                 if type(key) is not str and not isinstance(key, str):
-                    raise TypeError(f"The keys of JSON objects are texts: {key!r}")
+                    return False
             waiting += value.values()
         elif kind is list or isinstance(value, (list, tuple)):
             waiting += value
+    return True
+
+
+def _located(uri: str, contents: Schema) -> Optional[Exception]:
+    """The first value of a document that is no JSON, as an exception that says where it is."""
+    waiting, seen = [("", contents)], set()
+    for pointer, value in waiting:
+        where = f"document {uri!r}, at {pointer!r}: "
+        if isinstance(value, (dict, list, tuple)):
+            if id(value) in seen:
+                continue
+            seen.add(id(value))
+        if isinstance(value, dict):
+            for key, below in value.items():
+                if not isinstance(key, str):
+                    return TypeError(f"{where}the keys of JSON objects are texts, not {key!r}")
+                waiting.append((f"{pointer}/{key.replace('~', '~0').replace('/', '~1')}", below))
+        elif isinstance(value, (list, tuple)):
+            waiting += [(f"{pointer}/{number}", below) for number, below in enumerate(value)]
+        elif isinstance(value, float) and (value != value or value in (float("inf"), float("-inf"))):
+            return ValueError(f"{where}JSON has no number {value!r}")
+        elif value is not None and not isinstance(value, (str, int, float)):
+            return TypeError(f"{where}a value of type {type(value).__name__} is no JSON")
+    return None
+
+
+def _fragment(text: str) -> str:
+    """A pointer or a name as a fragment of a URI."""
+    from urllib.parse import quote
+
+    return quote(text, safe="/~!$&'()*+,;=:@?")
 
 
 def _at(value: Schema, pointer: str) -> Schema:
@@ -139,13 +258,18 @@ def _at(value: Schema, pointer: str) -> Schema:
     return value
 
 
+class _Closed(ProcessEnded):
+    """The registry was closed in the program, by another thread, since it was opened."""
+
+
 class _Opened:
     """A registry as the program has it, until nothing refers to it."""
 
-    __slots__ = ("process", "number", "documents", "parent", "close", "__weakref__")
+    __slots__ = ("process", "number", "documents", "parent", "timeout", "close", "__weakref__")
 
-    def __init__(self, process: _process.Process, number: int, documents: List[Schema], parent: Optional["_Opened"]) -> None:
+    def __init__(self, process: _process.Process, number: int, documents: List[Schema], parent: Optional["_Opened"], timeout: Optional[float] = None) -> None:
         self.process = process
+        self.timeout = timeout
         self.number = number
         self.documents = documents
         self.parent = parent
@@ -166,8 +290,10 @@ class _Opened:
 
     def ask(self, ref: str, call: str, members: str = "") -> Any:
         """What the program answers, or the exception for its error."""
-        answer = self.process.ask(f'{{"call":"{call}","registry":{self.number}{members}}}\n'.encode("utf-8"))
+        answer = self.process.ask(f'{{"call":"{call}","registry":{self.number}{members}}}\n'.encode("utf-8"), self.timeout)
         if "error" in answer:
+            if answer["error"]["name"] == "UnknownRegistry":
+                raise _Closed(answer["error"]["message"])
             raise from_answer(answer["error"], ref)
         return answer["result"]
 
@@ -208,12 +334,13 @@ class Registry(Mapping[str, Resource]):
     which raises an exception or answers `None` where it has none. Values in answers are those of the documents that were given, not copies, so they must not change.
 
     `parent` is a registry whose documents are seen where this one has none, or meta-schemas, each under its URI, which are made such a registry.
-    `draft` is the draft of documents that name none, and `limit` says how many documents may be retrieved. A document that can't be had is an error as soon as the
+    `draft` is the draft of documents that name none, `limit` says how many documents may be retrieved, and `timeout` how many seconds a call to the program may take, after
+    which it is ended and `CallTimedOut` raised. A document that can't be had is an error as soon as the
     program gets the others, or with `allow_missing` only where a reference to it is looked up. The meta-schemas of the drafts are there where the package
     `jsonschema-specifications` is installed.
     """
 
-    __slots__ = ("_documents", "_retrieve", "_draft", "_limit", "_allow_missing", "_retrieved", "_base", "_parent", "_opened", "__weakref__")
+    __slots__ = ("_documents", "_retrieve", "_draft", "_limit", "_allow_missing", "_timeout", "_retrieved", "_base", "_parent", "_tolerant", "_opened", "__weakref__")
 
     def __init__(
         self,
@@ -224,14 +351,20 @@ class Registry(Mapping[str, Resource]):
         draft: Draft = DRAFT202012,
         limit: Optional[int] = None,
         allow_missing: bool = False,
+        timeout: Optional[float] = None,
     ) -> None:
+        if isinstance(resources, dict) and _is_schema(resources):
+            raise TypeError("A Registry takes documents, each under a URI, as {'https://example.com/a': schema}; this is a schema by itself")
         pairs = resources.items() if isinstance(resources, Mapping) else resources
         self._documents: Dict[str, Resource] = {uri.rstrip("#"): _resource(given) for uri, given in pairs}
         self._retrieve = retrieve
         self._draft = draft
         self._limit = limit
         self._allow_missing = allow_missing
+        self._timeout = timeout
         self._retrieved: Dict[str, Resource] = {}
+        # The same registry with `allow_missing`, once one of its documents was missing.
+        self._tolerant: Optional[Registry] = None
         # The parent that the caller gave; `_parent` is the registry that this one was made from, where it is opened behind that.
         self._base: Optional[Registry] = parent if parent is None or isinstance(parent, Registry) else Registry(parent)
         self._parent: Optional[Registry] = None
@@ -254,6 +387,58 @@ class Registry(Mapping[str, Resource]):
     def with_contents(self, pairs: Pairs, default_specification: Optional[Draft] = None) -> "Registry":
         """A registry with more documents, each by the draft that it names, or the default one, or that of the registry."""
         return self.with_resources((uri, Resource(contents, None if _named(contents) else default_specification)) for uri, contents in pairs)
+
+    def remove(self, uri: str) -> "Registry":
+        """A registry without the document under a URI. `NoSuchResource` where there is none."""
+        documents = self._all()
+        if documents.pop(uri.rstrip("#"), None) is None:
+            raise NoSuchResource(uri)
+        return self._evolved(documents, self._all_retrieved(), None)
+
+    def get_or_retrieve(self, uri: str) -> "Retrieved":
+        """The document under a URI, or the schema with that identifier, or else what `retrieve` answers; with the registry that has it. `NoSuchResource` where there is none,
+        `Unretrievable` where `retrieve` refuses.
+
+        >>> Registry({"u:a": {"type": "null"}}).get_or_retrieve("u:a").value.contents
+        {'type': 'null'}
+        """
+        try:
+            return Retrieved(self[uri], self)
+        except NoSuchResource:
+            if self._retrieve is None:
+                raise
+        error = Unretrievable(uri, "The document isn't there")
+        error.uri = uri
+        resource = self._asked_for(error)
+        return Retrieved(resource, self.with_resource(uri, resource))
+
+    def anchor(self, uri: str, name: str) -> "Retrieved":
+        """The anchor with a name in the resource under a URI, with the registry. `NoSuchAnchor` where no schema has it.
+
+        >>> Registry({"u:a": {"not": {"$anchor": "n"}}}).anchor("u:a", "n").value.resource.contents
+        {'$anchor': 'n'}
+        """
+        resolved = self.resolver(uri).lookup("#" + _fragment(name))
+        resource = Resource(resolved.contents, resolved.specification)
+        for anchor in resource.anchors():
+            if anchor.name == name:
+                return Retrieved(anchor, self)
+        raise NoSuchAnchor(name, f"Anchor {name!r} does not exist")
+
+    def __rmatmul__(self, new: Any) -> "Registry":
+        """A registry with a document, or several, under their own identifiers: `resource @ registry`. `NoInternalID` for one without."""
+        resources = [_resource(it) for it in (new if isinstance(new, (list, tuple)) else [new])]
+        pairs = []
+        for resource in resources:
+            uri = resource.id()
+            if uri is None:
+                raise NoInternalID(resource)
+            pairs.append((uri, resource))
+        return self.with_resources(pairs)
+
+    @property
+    def _resources(self) -> Any:
+        raise TypeError("Validators of jsonschema take registries of `referencing` alone: ask patchsard.jsonschema.validator_for(schema, registry=..) for one with this registry")
 
     def combine(self, *registries: "Registry") -> "Registry":
         """A registry with the documents of all. Only one of them may have a `retrieve` of its own, and only one a parent."""
@@ -293,19 +478,24 @@ class Registry(Mapping[str, Resource]):
 
     def dangling(self) -> "List[Dangling]":
         """The references of the registry's documents, and of those that they wanted, that find nothing."""
-        opened = self._as_one()._open()
-        return [Dangling(opened.documents[it["document"]], it["pointer"], it["error"]) for it in opened.ask("", "dangling")]
+        def listed(opened: _Opened) -> List[Dangling]:
+            return [Dangling(opened.documents[it["document"]], it["pointer"], from_answer(it["error"], "")) for it in opened.ask("", "dangling")]
+
+        return self._as_one()._again(listed)
 
     def bundle(self, uri: str) -> Schema:
         """A document with all others that it needs in it, as a new value."""
-        opened = self._as_one()._open()
-        try:
-            found = opened.ask(uri, "lookup", f',"base":{_encode(uri)},"reference":"#"')
-        except Unresolvable:
-            raise NoSuchResource(uri) from None
-        if found["registry"] != opened.number or found["pointer"]:
-            raise NoSuchResource(uri)
-        return opened.ask(uri, "bundle", f',"document":{found["document"]}')["bundle"]
+
+        def bundled(opened: _Opened) -> Schema:
+            try:
+                found = opened.ask(uri, "lookup", f',"base":{_encode(uri)},"reference":"#"')
+            except Unresolvable:
+                raise NoSuchResource(uri) from None
+            if found["registry"] != opened.number or found["pointer"]:
+                raise NoSuchResource(uri)
+            return opened.ask(uri, "bundle", f',"document":{found["document"]}')["bundle"]
+
+        return self._as_one()._again(bundled)
 
     def close(self) -> None:
         """Gives back the memory that the program has for this registry. It is opened anew where it is used again."""
@@ -333,7 +523,8 @@ class Registry(Mapping[str, Resource]):
         return Resource(resolved.contents, resolved.specification)
 
     def __contains__(self, uri: object) -> bool:
-        return uri in self._documents or self._parent is not None and uri in self._parent
+        own = uri.rstrip("#") if isinstance(uri, str) else uri
+        return own in self._documents or self._parent is not None and own in self._parent
 
     def __iter__(self) -> Iterator[str]:
         """The URIs that documents were added under."""
@@ -351,19 +542,39 @@ class Registry(Mapping[str, Resource]):
     def __repr__(self) -> str:
         return f"<Registry of {len(self)} documents>"
 
+    def __reduce__(self) -> Tuple[Any, ...]:
+        """A registry is copied and pickled without what the program has of it."""
+        state = (self._documents, self._retrieve, self._draft, self._limit, self._allow_missing, self._timeout, self._retrieved, self._base, self._parent)
+        return type(self), (), state
+
+    def __setstate__(self, state: Tuple[Any, ...]) -> None:
+        self._documents, self._retrieve, self._draft, self._limit, self._allow_missing, self._timeout, self._retrieved, self._base, self._parent = state
+
+    def _again(self, does: Callable[[_Opened], _T]) -> _T:
+        """What is done with the opened registry; once more where the program ended meanwhile, since asking changes nothing."""
+        try:
+            return does(self._open())
+        except ProcessEnded:
+            self._opened = None
+            return does(self._open())
+
     def _evolved(self, documents: Dict[str, Resource], retrieved: Dict[str, Resource], parent: Optional["Registry"]) -> "Registry":
-        new = Registry((), self._retrieve, draft=self._draft, limit=self._limit, allow_missing=self._allow_missing)
+        new = type(self)((), self._retrieve, draft=self._draft, limit=self._limit, allow_missing=self._allow_missing, timeout=self._timeout)
         new._documents, new._retrieved, new._base, new._parent = documents, retrieved, self._base, parent
         return new
 
     def _with_root(self, resource: Resource) -> "Registry":
         """A registry with a document that has no URI, behind which this one stays open for the next."""
+        shared = self._tolerant or self
         if self._documents:
             try:
-                self._open()
+                shared._open()
             except Unretrievable:
-                pass
-        return self.with_resource("", resource)
+                # It is opened once with that document missing, for all that are made from it.
+                shared = self._evolved(self._all(), self._all_retrieved(), None)
+                shared._allow_missing, self._tolerant = True, shared
+                shared._open()
+        return shared.with_resource("", resource)
 
     def _all(self) -> Dict[str, Resource]:
         return {**(self._parent._all() if self._parent is not None else {}), **self._documents}
@@ -401,14 +612,14 @@ class Registry(Mapping[str, Resource]):
     def _open_in(self, process: _process.Process) -> _Opened:
         below = self._parent if self._parent is not None else self._base
         parent = below._open() if below is not None else _meta(process)
-        texts = {uri: _text(resource) for uri, resource in self._documents.items()}
+        texts = {uri: _text(uri, resource) for uri, resource in self._documents.items()}
         retrieved = dict(self._retrieved)
-        remote = {uri: _text(resource) for uri, resource in retrieved.items()}
+        remote = {uri: _text(uri, resource) for uri, resource in retrieved.items()}
         members = self._members(parent)
         head = f'{members},"documents":[{_listed(texts)}],"remote":['
         rounds = 0
         while True:
-            answer = process.ask(f"{head}{_listed(remote)}]}}\n".encode("utf-8"))
+            answer = process.ask(f"{head}{_listed(remote)}]}}\n".encode("utf-8"), self._timeout)
             if "error" not in answer:
                 break
             error = from_answer(answer["error"], answer["error"].get("uri", ""))
@@ -421,12 +632,15 @@ class Registry(Mapping[str, Resource]):
         uris = answer["result"]["documents"]
         documents = [resource.contents for resource in self._documents.values()]
         documents += [retrieved[uri].contents for uri in uris if uri in retrieved]
-        opened = _Opened(process, answer["result"]["registry"], documents, parent)
+        opened = _Opened(process, answer["result"]["registry"], documents, parent, self._timeout)
         if len(documents) != len(uris):
             # Some URIs mean the same; the last document under them took the place of the others.
+            numbers = {uri: number for number, uri in enumerate(uris)}
             opened.documents = [retrieved[uri].contents if uri in retrieved else None for uri in uris]
             for uri, resource in self._documents.items():
-                opened.documents[opened.ask(uri, "lookup", f',"base":{_encode(uri)},"reference":"#"')["document"]] = resource.contents
+                # A look-up of a URI alone answers it in the form in which documents are listed.
+                meant = opened.ask(uri, "lookup", f',"base":{_encode(uri)},"reference":""')["base"]
+                opened.documents[numbers[meant]] = resource.contents
         self._retrieved = {uri: resource for uri, resource in retrieved.items() if resource.contents is not _MISSING}
         return opened
 
@@ -503,7 +717,14 @@ class Registry(Mapping[str, Resource]):
             if not self._allow_missing:
                 raise
             return Resource(_MISSING), f'{{"$schema":"{self._draft.uri}"}}'
-        return resource, _text(resource)
+        return resource, _text(error.uri or "", resource)
+
+
+class Retrieved(NamedTuple):
+    """A document or an anchor, and the registry that has it."""
+
+    value: Any
+    registry: Registry
 
 
 class Resolved:
@@ -537,11 +758,11 @@ class Resolved:
 
 
 class Dangling(NamedTuple):
-    """A reference that finds nothing: the document it stands in, the pointer to its schema there, and the error as the program gives it."""
+    """A reference that finds nothing: the document it stands in, the pointer to its schema there, and the exception that a look-up of it raises."""
 
     document: Schema
     pointer: str
-    error: Dict[str, str]
+    error: Exception
 
     @property
     def contents(self) -> Schema:
@@ -573,10 +794,27 @@ class Resolver:
         """Where a reference leads. Raises `Unresolvable`, or a class below it, where it finds nothing."""
         return self._lookup(ref)
 
+    @overload
+    def lookup_all(self, refs: Iterable[str], return_exceptions: "Literal[False]" = False) -> List[Resolved]: ...
+
+    @overload
+    def lookup_all(self, refs: Iterable[str], return_exceptions: bool) -> List[Union[Resolved, Unresolvable]]: ...
+
     def lookup_all(self, refs: Iterable[str], return_exceptions: bool = False) -> List[Any]:
-        """Where each of several references leads, asked at once. The first that finds nothing is raised, or with `return_exceptions` stands in its place."""
+        """Where each of several references leads, asked at once. The first that finds nothing is raised, or with `return_exceptions` stands in its place.
+
+        >>> resolver = Registry({"u:a": {"$defs": {"b": True}}}).resolver("u:a")
+        >>> [it.contents for it in resolver.lookup_all(["#/$defs/b", "#/$defs"])]
+        [True, {'b': True}]
+        """
         refs = list(refs)
-        opened = self._registry._open()
+        found: List[Any] = []
+        # A longer list is asked in parts: the program answers one while its reader takes the one before.
+        for start in range(0, len(refs), _MOST_AT_ONCE):
+            found += self._registry._again(lambda opened: self._looked_up(opened, refs[start : start + _MOST_AT_ONCE], return_exceptions))
+        return found
+
+    def _looked_up(self, opened: _Opened, refs: List[str], return_exceptions: bool) -> List[Any]:
         value, registry = opened.value, self._registry
         found: List[Any] = []
         for ref, answer in zip(refs, self._ask(opened, "lookup", ',"reference":' + _encode(refs))):
@@ -605,14 +843,17 @@ class Resolver:
         draft = resource.specification or self._registry._draft
         if resource.specification is not None:
             members["$schema"] = draft.uri
-        answer = self._ask(self._registry._open(), "enter", f',"draft":"{draft.name}","schema":{_encode(members)}')
+        more = f',"draft":"{draft.name}","schema":{_encode(members)}'
+        answer = self._registry._again(lambda opened: self._ask(opened, "enter", more))
         return Resolver(self._registry, answer["base"], answer["scope"])
 
     def lookup_recursive_ref(self) -> Resolved:
         """Where `$recursiveRef` leads, in 2019-09."""
-        opened = self._registry._open()
-        answer = self._ask(opened, "recursive", ref="#")
-        return Resolved(opened.value(answer), self._registry, answer)
+        def found(opened: _Opened) -> Resolved:
+            answer = self._ask(opened, "recursive", ref="#")
+            return Resolved(opened.value(answer), self._registry, answer)
+
+        return self._registry._again(found)
 
     def __eq__(self, other: object) -> bool:
         return isinstance(other, Resolver) and (self._registry, self._base_uri, list(self._scope)) == (other._registry, other._base_uri, list(other._scope))
@@ -629,10 +870,17 @@ class Resolver:
         return opened.ask(ref, call, self._members + more)
 
     def _lookup(self, ref: str, may_retrieve: bool = True) -> Resolved:
-        opened = self._registry._open()
+        registry, more = self._registry, ',"reference":' + _encode(ref)
         try:
-            answer = self._ask(opened, "lookup", ',"reference":' + _encode(ref), ref)
-            return Resolved(opened.value(answer), self._registry, answer)
+            try:
+                opened = registry._open()
+                answer = self._ask(opened, "lookup", more, ref)
+            except ProcessEnded:
+                # Asking changes nothing, so it is done once more, by another process.
+                registry._opened = None
+                opened = registry._open()
+                answer = self._ask(opened, "lookup", more, ref)
+            return Resolved(opened.value(answer), registry, answer)
         except Unretrievable as error:
             if not may_retrieve:
                 raise

@@ -5,12 +5,14 @@ import atexit
 import collections
 import json
 import os
+import select
 import shutil
 import subprocess
 import threading
+import time
 from typing import Any, Deque, Dict, Optional
 
-from patchsard.exceptions import ProcessEnded, ProgramNotFound
+from patchsard.exceptions import CallTimedOut, ProcessEnded, ProgramNotFound
 
 _MOST = 1 << 16
 # As json.loads, but for what it asks of a text that is known to be one line.
@@ -52,6 +54,7 @@ class Process:
         assert self._popen.stdin is not None and self._popen.stdout is not None
         self._input = self._popen.stdin.fileno()
         self._output = self._popen.stdout.fileno()
+        os.set_blocking(self._input, False)
         self._lock = threading.RLock()
         # The thread that asks.
         self._asking: Optional[int] = None
@@ -81,17 +84,23 @@ class Process:
         """Whether this thread is amid a call already: so in a signal handler, and in what the garbage collector calls."""
         return self._is_amid and self._asking == threading.get_ident()
 
-    def ask(self, line: bytes) -> Dict[str, Any]:
-        """The answer to a line. A `RuntimeError` where a signal handler asks while the call that it interrupted waits for its answer."""
+    def ask(self, line: bytes, timeout: Optional[float] = None) -> Dict[str, Any]:
+        """The answer to a line, within so many seconds from now, other threads' calls before it among them. A `RuntimeError` where a signal handler asks while the
+        call that it interrupted waits for its answer."""
         if self._is_nested():
             raise RuntimeError("A signal handler asks the program patchsard, while the call that it interrupted waits for its answer")
-        with self._lock:
+        until = None if timeout is None else time.monotonic() + timeout
+        if not self._lock.acquire(timeout=-1 if timeout is None else max(timeout, 0)):
+            raise CallTimedOut(f"Other threads' calls took the {timeout} seconds that a call may take")
+        try:
             before, self._asking = self._asking, threading.get_ident()
             try:
-                self._close_waiting()
-                answer = self._exchange(line)
+                self._close_waiting(until)
+                answer = self._exchange(line, until)
             finally:
                 self._asking = before
+        finally:
+            self._lock.release()
         try:
             return _decoded(answer.decode("utf-8"), 0)[0]
         except (ValueError, StopIteration):
@@ -110,11 +119,25 @@ class Process:
                 self._asking = before
                 self._lock.release()
 
-    def _close_waiting(self) -> None:
+    def _close_waiting(self, until: Optional[float] = None) -> None:
         while self._to_close:
-            self._exchange(b'{"call":"close","registry":%d}\n' % self._to_close.popleft())
+            self._exchange(b'{"call":"close","registry":%d}\n' % self._to_close.popleft(), until)
 
-    def _exchange(self, line: bytes) -> bytes:
+    def _wait(self, file: int, event: int, until: Optional[float]) -> None:
+        """Waits until a pipe can be read or written, or the time of a call is over."""
+        poll = select.poll()
+        poll.register(file, event)
+        if not poll.poll(None if until is None else max(0, int(1000 * (until - time.monotonic())) + 1)):
+            raise CallTimedOut("The program patchsard took longer than a call may take, and was ended")
+
+    def _write_on(self, rest: memoryview, until: Optional[float]) -> None:
+        while rest:
+            try:
+                rest = rest[os.write(self._input, rest) :]
+            except BlockingIOError:
+                self._wait(self._input, select.POLLOUT, until)
+
+    def _exchange(self, line: bytes, until: Optional[float] = None) -> bytes:
         if self._is_amid and not self.ended:
             # A call before this one was interrupted, and its answer would be taken for that of this one.
             self._end()
@@ -122,28 +145,33 @@ class Process:
             raise ProcessEnded("The program patchsard has ended")
         try:
             self._is_amid = self.asked = True
-            written = os.write(self._input, line)
+            try:
+                written = os.write(self._input, line)
+            except BlockingIOError:
+                written = 0
             if written < len(line):
-                rest = memoryview(line)[written:]
-                while rest:
-                    rest = rest[os.write(self._input, rest) :]
+                self._write_on(memoryview(line)[written:], until)
+            if until is not None:
+                self._wait(self._output, select.POLLIN, until)
             answer = os.read(self._output, _MOST)
             if answer[-1:] != b"\n":
-                answer = self._read_on(answer)
+                answer = self._read_on(answer, until)
             self._is_amid = False
             return answer
         except BaseException as error:
             # What is half written or unread would be taken for part of the next call.
             self._end()
-            if isinstance(error, (OSError, EOFError)):
+            if isinstance(error, (OSError, EOFError)) and not isinstance(error, CallTimedOut):
                 raise ProcessEnded(f"{self._program} has ended, with status {self._popen.returncode}, while it was asked") from error
             raise
 
-    def _read_on(self, first: bytes) -> bytes:
+    def _read_on(self, first: bytes, until: Optional[float]) -> bytes:
         parts = [first]
         while parts[-1][-1:] != b"\n":
             if not parts[-1]:
                 raise EOFError
+            if until is not None:
+                self._wait(self._output, select.POLLIN, until)
             parts.append(os.read(self._output, _MOST))
         return b"".join(parts)
 

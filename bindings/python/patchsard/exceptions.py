@@ -62,8 +62,8 @@ class UnknownSpecification(Unretrievable):
     """A meta-schema that a `$schema` names isn't there."""
 
 
-class RetrievalLimit(PatchsardError):
-    """The documents want more documents than the registry's `limit` allows."""
+class RetrievalLimit(Unresolvable):
+    """The documents want more documents than the registry's `limit` allows. `ref` is empty: it is no one reference's fault."""
 
 
 class NotBundled(PatchsardError):
@@ -80,6 +80,14 @@ class NoSuchResource(PatchsardError, KeyError):
         self.ref = ref
 
 
+class NoInternalID(PatchsardError):
+    """A document that is added by its own identifier has none. `resource` is the document."""
+
+    def __init__(self, resource: Any) -> None:
+        super().__init__(resource)
+        self.resource = resource
+
+
 class CannotDetermineSpecification(PatchsardError):
     """A document names no draft that is known, and no default was given. `contents` is the document."""
 
@@ -90,6 +98,10 @@ class CannotDetermineSpecification(PatchsardError):
 
 class ProcessEnded(PatchsardError, RuntimeError):
     """The program ended while it was asked. The next registry starts another, and those that were open are opened in it anew."""
+
+
+class CallTimedOut(PatchsardError, TimeoutError):
+    """The program took longer for a call than the registry's `timeout`, and was ended. The next call starts another."""
 
 
 class ProgramNotFound(PatchsardError, RuntimeError):
@@ -131,7 +143,7 @@ def from_answer(error: Dict[str, Any], ref: str) -> Exception:
             found.field, found.index = error.get("field"), error.get("index")
         return found
     if name == "RetrievalLimit":
-        return RetrievalLimit(message)
+        return RetrievalLimit("", message)
     if name == "NotBundled":
         refused = NotBundled(message)
         refused.reason = error.get("reason")

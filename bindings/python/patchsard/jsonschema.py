@@ -6,8 +6,11 @@ from typing import Any, Callable, Iterator, NamedTuple, Optional, Tuple
 from patchsard._core import DRAFT4, DRAFT6, DRAFT7, DRAFT201909, DRAFT202012, Draft, Registry, Resolved, Resolver, Resource, _BY_URI
 from patchsard.exceptions import Unresolvable
 
-__all__ = ["DRAFT4", "DRAFT6", "DRAFT7", "DRAFT201909", "DRAFT202012", "EMPTY_REGISTRY", "lookup_recursive_ref", "specification_with", "validator_for"]
+__all__ = ["DRAFT4", "DRAFT6", "DRAFT7", "DRAFT201909", "DRAFT202012", "EMPTY_REGISTRY", "SchemaRegistry", "SchemaResource", "lookup_recursive_ref", "specification_with", "validator_for"]
 
+# As `referencing.jsonschema` names them.
+SchemaRegistry = Registry
+SchemaResource = Resource
 EMPTY_REGISTRY = Registry()
 
 
@@ -33,6 +36,10 @@ def validator_for(schema: Any, *, registry: Any = None, retrieve: Optional[Calla
     """
     import jsonschema.validators
 
+    if not hasattr(jsonschema.validators, "_RefResolver"):
+        from importlib.metadata import version
+
+        raise ImportError(f"jsonschema 4.18 or later is needed for validators whose references the program resolves; this is {version('jsonschema')}")
     if default is None:
         kind = jsonschema.validators.validator_for(schema)
     else:
@@ -77,7 +84,12 @@ class _Resolver:
         return _Resolved(resolved.contents, _Resolver(resolved.resolver))
 
     def in_subresource(self, subresource: Any) -> "_Resolver":
-        inner = self._resolver.in_subresource(subresource)
+        try:
+            inner = self._resolver.in_subresource(subresource)
+        except Unresolvable as error:
+            import referencing.exceptions
+
+            raise referencing.exceptions.Unresolvable(ref=error.ref) from error
         return self if inner is self._resolver else _Resolver(inner)
 
     def dynamic_scope(self) -> Iterator[Tuple[str, Any]]:

@@ -1,4 +1,6 @@
 """One process for all registries: threads, its end, forks, and where the program is."""
+import concurrent.futures
+import copy
 import gc
 import os
 import pickle
@@ -8,6 +10,7 @@ import subprocess
 import sys
 import tempfile
 import threading
+import time
 import unittest
 from unittest import mock
 
@@ -20,6 +23,13 @@ SCHEMA = {"$defs": {str(number): {"const": number} for number in range(50)}}
 
 def registry():
     return Registry().with_resource("https://example.com/a", SCHEMA)
+
+
+def looked_up(reference):
+    """What a job of a pool does: a number is a document that is no JSON for the program."""
+    if isinstance(reference, int):
+        return Registry({"u:a": {"const": reference}}).crawl()
+    return registry().resolver("https://example.com/a").lookup(reference).contents
 
 
 class OneProcess(unittest.TestCase):
@@ -68,8 +78,8 @@ class OneProcess(unittest.TestCase):
         resolver.lookup("#/$defs/7")
         pid = _process.shared().pid
         os.kill(pid, signal.SIGKILL)
-        with self.assertRaises(patchsard.ProcessEnded):
-            resolver.lookup("#/$defs/7")
+        # Asking changes nothing, so it is done once more, by another process.
+        self.assertIs(resolver.lookup("#/$defs/7").contents, SCHEMA["$defs"]["7"])
         self.assertIs(registry().resolver("https://example.com/a").lookup("#/$defs/7").contents, SCHEMA["$defs"]["7"])
         self.assertNotEqual(_process.shared().pid, pid)
         self.assertIs(resolver.lookup("#/$defs/8").contents, SCHEMA["$defs"]["8"])
@@ -93,9 +103,115 @@ class OneProcess(unittest.TestCase):
         with mock.patch.object(_process.os, "read", side_effect=KeyboardInterrupt), mock.patch.object(_process.Process, "_end", side_effect=KeyboardInterrupt):
             with self.assertRaises(KeyboardInterrupt):
                 resolver.lookup("#/$defs/2")
-        with self.assertRaises(patchsard.ProcessEnded):
-            resolver.lookup("#/$defs/3")
+        self.assertIs(resolver.lookup("#/$defs/3").contents, SCHEMA["$defs"]["3"])
         self.assertIs(resolver.lookup("#/$defs/4").contents, SCHEMA["$defs"]["4"])
+
+    def test_a_process_that_is_killed_at_each_call(self):
+        asked = []
+
+        def killed(self, line, until=None):
+            asked.append(line)
+            self._popen.kill()
+            self._end()
+            raise patchsard.ProcessEnded("killed")
+
+        resolver = registry().resolver("https://example.com/a")
+        resolver.lookup("#/$defs/1")
+        with mock.patch.object(_process.Process, "_exchange", killed), self.assertRaises(patchsard.ProcessEnded):
+            resolver.lookup("#/$defs/2")
+        self.assertLess(len(asked), 5)
+        self.assertIs(resolver.lookup("#/$defs/3").contents, SCHEMA["$defs"]["3"])
+
+    def test_every_call_that_only_reads_is_asked_once_more(self):
+        held = Registry({"u:a": {"$id": "u:a", "$defs": {"b": {"$ref": "#/no"}, "c": {"$id": "u:c"}}}})
+        resolver = held.resolver("u:a")
+        for asks in (
+            lambda: resolver.lookup("#/$defs/b"),
+            lambda: resolver.lookup_all(["#", "#/$defs/b"]),
+            lambda: resolver.in_subresource({"$id": "u:c"}),
+            lambda: resolver.lookup_recursive_ref(),
+            lambda: held.dangling(),
+            lambda: held.bundle("u:a"),
+            lambda: held["u:c"],
+        ):
+            asks()
+            os.kill(_process.shared().pid, signal.SIGKILL)
+            asks()
+
+    def test_a_call_that_takes_too_long(self):
+        held = Registry({"u:a": SCHEMA}, timeout=0.3)
+        resolver = held.resolver("u:a")
+        resolver.lookup("#/$defs/1")
+        for asks in (lambda: resolver.lookup("#/$defs/2"), lambda: Registry({"u:b": {"enum": ["x" * 1_000_000]}}, timeout=0.3).crawl()):
+            pid = _process.shared().pid
+            os.kill(pid, signal.SIGSTOP)
+            begin = time.monotonic()
+            with self.assertRaises(patchsard.CallTimedOut) as raised:
+                asks()
+            self.assertIsInstance(raised.exception, TimeoutError)
+            self.assertTrue(0.25 < time.monotonic() - begin < 10, time.monotonic() - begin)
+            self.assertIs(resolver.lookup("#/$defs/3").contents, SCHEMA["$defs"]["3"])
+            self.assertNotEqual(_process.shared().pid, pid)
+
+    def test_a_call_that_waits_too_long_for_another(self):
+        resolver = Registry({"u:a": SCHEMA}, timeout=0.2).resolver("u:a")
+        resolver.lookup("#/$defs/1")
+        with _process.shared()._lock:
+            raised = []
+
+            def asks():
+                try:
+                    resolver.lookup("#/$defs/2")
+                except patchsard.CallTimedOut as error:
+                    raised.append(error)
+
+            thread = threading.Thread(target=asks)
+            thread.start()
+            thread.join(20)
+        self.assertEqual(len(raised), 1)
+        self.assertIs(resolver.lookup("#/$defs/3").contents, SCHEMA["$defs"]["3"])
+
+    def test_close_beside_look_ups(self):
+        held = registry()
+        resolver, wrong, done = held.resolver("https://example.com/a"), [], threading.Event()
+
+        def asks():
+            while not done.is_set():
+                try:
+                    if resolver.lookup("#/$defs/7").contents is not SCHEMA["$defs"]["7"]:
+                        wrong.append("another value")
+                except Exception as error:
+                    wrong.append(error)
+
+        threads = [threading.Thread(target=asks) for _ in range(4)]
+        for thread in threads:
+            thread.start()
+        for _ in range(200):
+            held.close()
+        done.set()
+        for thread in threads:
+            thread.join()
+        self.assertEqual(wrong, [])
+
+    def test_copies(self):
+        held = Registry({"u:a": {"$ref": "u:a#n", "$anchor": "n"}}, parent={"u:m": {}}).crawl()
+        held = held.with_resource("u:c", patchsard.jsonschema.DRAFT7.create_resource({"$id": "#x"}))
+        resolver = held.resolver("u:a")
+        found = resolver.lookup("#n")
+        for copied in (copy.deepcopy, lambda it: pickle.loads(pickle.dumps(it))):
+            other = copied(held)
+            self.assertEqual(list(other), list(held))
+            self.assertEqual(other.resolver("u:a").lookup("u:c#x").specification, patchsard.jsonschema.DRAFT7)
+            self.assertEqual(copied(resolver).lookup("#n").contents, found.contents)
+            self.assertEqual(copied(found).resolver.lookup("#").contents, found.contents)
+
+    def test_a_pool_of_processes(self):
+        with concurrent.futures.ProcessPoolExecutor(2) as pool:
+            jobs = [pool.submit(looked_up, it) for it in ("#/$defs/1", "#/$defs/none", 10**400, "#/$defs/2")]
+            self.assertEqual(jobs[0].result(60), {"const": 1})
+            self.assertIsInstance(jobs[1].exception(60), patchsard.PointerToNowhere)
+            self.assertIsInstance(jobs[2].exception(60), Exception)
+            self.assertEqual(jobs[3].result(60), {"const": 2})
 
     def amid(self, does):
         """The answer to a look-up while which `does` is called, as a signal handler or the garbage collector would."""
@@ -179,9 +295,9 @@ class OneProcess(unittest.TestCase):
         asked = []
         exchange = _process.Process._exchange
 
-        def seen(self, line):
+        def seen(self, line, until=None):
             asked.append(line)
-            return exchange(self, line)
+            return exchange(self, line, until)
 
         with mock.patch.object(_process.Process, "_exchange", seen):
             resolver = registry().resolver("https://example.com/a")

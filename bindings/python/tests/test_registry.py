@@ -128,6 +128,45 @@ class Registries(unittest.TestCase):
         self.assertEqual([resolver.lookup(it).contents["const"] for it in "abd"], [3, 2, "json-schema:///d"])
         self.assertIs(resolver.lookup("a").contents, documents["json-schema:///a"])
 
+    def test_texts_that_mean_one_uri_and_an_identifier_that_is_anothers(self):
+        documents = {"http://a/x": {"$defs": {"k": {"$id": "http://a/k"}}}, "http://a/y": {"$defs": {"q": {"$id": "http://a/x"}}}, "http://a/z": {}, "HTTP://a/z": {"const": 1}}
+        for order in (list(documents), list(reversed(documents))):
+            given = {uri: documents[uri] for uri in order}
+            resolver = Registry(given).resolver()
+            self.assertIs(resolver.lookup("http://a/k").contents, documents["http://a/x"]["$defs"]["k"])
+            self.assertIs(resolver.lookup("http://a/y").contents, documents["http://a/y"])
+            self.assertIs(resolver.lookup("http://a/z").contents, documents[order[max(order.index("http://a/z"), order.index("HTTP://a/z"))]])
+
+    def test_names_of_referencing(self):
+        registry = Registry({"u:a": {"not": {"$anchor": "n"}}, "u:b": {}}, retrieve={"u:c": {"const": 1}}.__getitem__)
+        self.assertEqual(list(registry.remove("u:b#")), ["u:a"])
+        with self.assertRaises(patchsard.NoSuchResource):
+            registry.remove("u:c")
+        found = registry.get_or_retrieve("u:c")
+        self.assertEqual((found.value.contents, list(found.registry)), ({"const": 1}, ["u:a", "u:b", "u:c"]))
+        self.assertIs(registry.get_or_retrieve("u:a").registry, registry)
+        with self.assertRaises(patchsard.Unretrievable):
+            registry.get_or_retrieve("u:d")
+        with self.assertRaises(patchsard.NoSuchResource):
+            Registry().get_or_retrieve("u:d")
+        self.assertEqual(registry.anchor("u:a", "n").value.resource.contents, {"$anchor": "n"})
+        with self.assertRaises(patchsard.NoSuchAnchor):
+            registry.anchor("u:a", "m")
+        added = [Resource({"$id": "u:e"}), {"$id": "u:f"}] @ registry
+        self.assertEqual(list(added), ["u:a", "u:b", "u:e", "u:f"])
+        self.assertEqual(list(Resource({"$id": "u:e"}) @ Registry()), ["u:e"])
+        with self.assertRaises(patchsard.NoInternalID):
+            Resource({}) @ registry
+        self.assertTrue("u:a#" in registry and "u:x" not in registry)
+        self.assertIs(patchsard.jsonschema.SchemaRegistry, Registry)
+        self.assertEqual(len(patchsard.jsonschema.EMPTY_REGISTRY), 0)
+        self.assertEqual(patchsard.__version__, "0.1.0")
+
+    def test_wrong_use(self):
+        for schema in ({"$id": "u:a", "type": "string"}, {"$ref": "#"}, {"type": "object", "properties": {}}):
+            with self.assertRaisesRegex(TypeError, "each under a URI"):
+                Registry(schema)
+
     def test_documents_behind_an_open_registry(self):
         documents = {f"https://example.com/{number}": {"const": number} for number in range(30)}
         registry = Registry()
@@ -202,6 +241,18 @@ class Registries(unittest.TestCase):
         self.assertEqual(Resource({"$id": "https://example.com/a#"}).id(), "https://example.com/a")
         self.assertIsNone(Resource({"$id": "#a"}, DRAFT7).id())
         self.assertIsNone(Resource(True).id())
+        self.assertEqual(len({Resource({"$id": "u:a"}), Resource({"$id": "u:a"}), Resource({"$id": "u:b"}), Resource([])}), 3)
+        with self.assertRaises(AttributeError):
+            Resource({}).contents = 1
+        self.assertEqual([(it.name, it.is_dynamic) for it in Resource({"$anchor": "a", "$dynamicAnchor": "b"}).anchors()], [("a", False), ("b", True)])
+        self.assertEqual([it.name for it in Resource({"$anchor": "a", "$dynamicAnchor": "b"}, DRAFT201909).anchors()], ["a"])
+        self.assertEqual([it.name for it in Resource({"$id": "#a"}, DRAFT7).anchors()], ["a"])
+        self.assertEqual(list(Resource({"$id": "#/a"}, DRAFT7).anchors()) + list(Resource(True).anchors()), [])
+        old = {"allOf": [{"not": {}}, True], "properties": {"a": {"items": {}}}, "const": {"not": {}}, "$defs": {"b/c": {"$schema": DRAFT7.uri}}}
+        below = list(Resource(old).subresources())
+        self.assertEqual(sorted(map(repr, below)), sorted(map(repr, [Resource({"not": {}}, DRAFT202012), Resource(True, DRAFT202012), Resource({"items": {}}, DRAFT202012), Resource({"$schema": DRAFT7.uri}, DRAFT7)])))
+        root = Resource({"$defs": {"a/b é": {"$id": "u:x"}}})
+        self.assertEqual(root.pointer("/$defs/a~1b é", Registry().resolver_with_root(root)).contents, {"$id": "u:x"})
 
     def test_resolver_with_root(self):
         shared = {"$id": "https://example.com/shared"}
@@ -235,9 +286,9 @@ class Registries(unittest.TestCase):
         registry = Registry().with_resource("https://example.com/a", schema)
         (found,) = registry.dangling()
         self.assertIs(found.contents, schema["$defs"]["b"])
-        self.assertEqual((found.pointer, found.error["name"]), ("/$defs/b", "PointerToNowhere"))
+        self.assertEqual((found.pointer, type(found.error)), ("/$defs/b", patchsard.PointerToNowhere))
         more = registry.crawl().with_resource("https://example.com/b", {"$ref": "a#x"})
-        self.assertEqual([it.error["name"] for it in more.dangling()], ["PointerToNowhere", "NoSuchAnchor"])
+        self.assertEqual([type(it.error) for it in more.dangling()], [patchsard.PointerToNowhere, patchsard.NoSuchAnchor])
 
     def test_bundle(self):
         registry = Registry([("https://example.com/a", {"$id": "https://example.com/a", "$ref": "b"}), ("https://example.com/b", {"type": "string"})])

@@ -23,7 +23,7 @@ use Rattle.ref_definitions.specs.Fault.{Fault}
 use Rattle.ref_definitions.specs.Lookup.{Found, lookup}
 use Rattle.ref_findings.specs.Places.{nearest_base, dynamic_keyword}
 use Rattle.ref_findings.specs.Sources.{Source, places_in, read_document, world_of, unread_uris}
-use Rattle.ref_findings.specs.Guessed.{is_guessed, uris_referred, referrer, has_item_list}
+use Rattle.ref_findings.specs.Guessed.{is_guessed, uris_referred, referrer, root_uri, has_item_list}
 use Rattle.ref_findings.specs.Bearers.{Site, sites, source_uri, uris_borne, names_borne, first_under, other_bearer, in_source, begins_with_slash}
 
 -- what is wrong, or is noted; a duplicate has the number of the source and the path of the first place that has the text, and
@@ -361,7 +361,9 @@ list_of_items number p =
 abbrev pub guesses_in : Draft → List Site → List (Entry ℕ) → ℕ → Source → Data → List Finding
 guesses_in draft sites referred number s tree =
     if is_guessed tree then
-    option_to_list (option_map (guessed_draft number) (referrer draft sites referred s.uri tree))
+    option_to_list
+    (option_map (guessed_draft number)
+    (referrer sites referred s.uri (root_uri (places_in draft s))))
     ++ option_to_list (option_map (list_of_items number) (find has_item_list (places_in draft s)))
     else []
 

@@ -10,10 +10,9 @@ use Rattle.ref_draft.specs.Keywords.{is_unknown}
 use Rattle.ref_draft.specs.Order.{rank}
 use Rattle.ref_draft.specs.Schema.{text_under}
 use Rattle.ref_parts.specs.Table.{Entry}
-use Rattle.ref_definitions.specs.Places.{Place, root}
+use Rattle.ref_definitions.specs.Places.{Place}
 use Rattle.ref_definitions.specs.Resources.{own_uri}
-use Rattle.ref_findings.specs.Places.{document}
-use Rattle.ref_findings.specs.Sources.{Source, under_uri}
+use Rattle.ref_findings.specs.Sources.{under_uri}
 use Rattle.ref_findings.specs.Bearers.{Site, first_under}
 use Rattle.ref_findings.specs.Gathered.{referred_uri}
 
@@ -40,11 +39,15 @@ abbrev pub first_referrer : List Site → List (Entry ℕ) → List ℕ → Opti
 first_referrer sites referred uri =
     option_and_then (slice_get sites) (first_under uri [] referred)
 
--- the first that refers to a document: by its URI, or else by the identifier of its root
-abbrev pub referrer : Draft → List Site → List (Entry ℕ) → List ℕ → Data → Option Site
-referrer draft sites referred uri tree =
+-- the first that refers to a document: by its URI, or else by that of its root's identifier, where it has one
+abbrev pub referrer : List Site → List (Entry ℕ) → List ℕ → Option (List ℕ) → Option Site
+referrer sites referred uri own =
     option_or (first_referrer sites referred uri)
-    (option_and_then (first_referrer sites referred) (own_uri (root (document draft uri tree))))
+    (option_and_then (first_referrer sites referred) own)
+
+-- the URI that the first of places has by its identifier; that of a document's places is its root
+abbrev pub root_uri : List Place → Option (List ℕ)
+root_uri places = option_and_then own_uri (slice_get places 0)
 
 -- whether a draft is 2020-12
 abbrev pub is_2020_12 : Draft → Bool

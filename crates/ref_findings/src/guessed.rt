@@ -5,25 +5,25 @@ ghost use Rattle.std.specs.Option.{option_to_list};
 ghost use Rattle.serde_json.specs.View.{view};
 ghost use Rattle.ref_parts.specs.Table.{entries_of};
 ghost use Rattle.ref_findings.specs.Sources.{places_in};
-ghost use Rattle.ref_findings.specs.Guessed.{is_guessed, is_of_another, entries_referred, uris_referred, first_referrer, referrer, has_item_list};
+ghost use Rattle.ref_findings.specs.Guessed.{is_guessed, is_of_another, entries_referred, uris_referred, first_referrer, referrer, root_uri, has_item_list};
 ghost use Rattle.ref_findings.specs.Findings.{guessed_draft, list_of_items, guesses_in, guesses_of};
 ghost use Rattle.ref_findings.specs.Entries.{source_of, IsFindingOf};
 ghost use Rattle.ref_findings.specs.inner.Adding.{Adds};
 ghost use Rattle.ref_findings.specs.inner.Seen.{place_of, site_of, seen_survey, survey_in, AreSurveys};
 
-use crate::bearers::{Entries, own_uri, push_uri, table_of};
+use crate::bearers::{Entries, push_uri, table_of};
 use crate::finding::{Bearer, Finding, Problem, text_under};
 use crate::gathering::referred;
 use crate::place::Place;
 use crate::site::Site;
 use crate::survey::Survey;
-use crate::walk::{read_draft, root_of};
 use ref_draft::Draft;
 use ref_index::segments_of;
 use ref_parts::SortedTable;
 use ref_uri::Uri;
 use serde_json::Value;
 use std::alloc::{AllocError, Global};
+use std::rc::Rc;
 
 // Whether a root names no meta-schema.
 fn is_guessed(value: &Value) -> bool
@@ -95,28 +95,24 @@ impl<'p, 'v> Referrers<'_, 'p, 'v> {
 }
 
 impl<'p, 'v> Referrers<'_, 'p, 'v> {
-    // The first place that refers to a document: by its URI, or else by the identifier of its root.
-    fn of(
-        &self,
-        alloc: Global,
-        uri: &Uri,
-        value: &'v Value,
-    ) -> Result<Option<&Site<'p, 'v>>, AllocError>
-        ensures { IfOk result
-            (λ found. option_map (λ s. site_of s.now) found
-            ≡ referrer self.now.draft (map site_of self.now.sites.now)
-            (reverse self.now.table.now) uri.now (view value.now)) }
+    // The first place that refers to a document: by its URI, or else by that of its root's identifier.
+    fn of(&self, uri: &str, own: Option<&Rc<Uri>>) -> Option<&Site<'p, 'v>>
+        ensures { option_map (λ s. site_of s.now) result
+            ≡ referrer (map site_of self.now.sites.now) (reverse self.now.table.now) uri.now
+            (option_map (λ u. u.now.value) own.entry) }
     {
-        if let Some(site) = self.first(uri.as_str()) {
-            return Ok(Some(site));
-        }
-        let draft = read_draft(alloc, self.draft, value)?;
-        let root = root_of(alloc, uri, value, draft)?;
-        match own_uri(alloc, &root)? {
-            Some(own) => Ok(self.first(own.as_str())),
-            None => Ok(None),
+        match self.first(uri) {
+            Some(site) => Some(site),
+            None => self.first(own?.as_str()),
         }
     }
+}
+
+// The URI that the first of places has by its identifier.
+fn root_uri<'p>(places: &'p [Place<'_>]) -> Option<&'p Rc<Uri>>
+    ensures { option_map (λ u. u.now.value) result ≡ root_uri (map place_of places.now) }
+{
+    places.first()?.own_uri()
 }
 
 // That a document is read by a guessed draft, and a place of another one refers to it.
@@ -148,16 +144,16 @@ fn add_draft<'v>(
     list: &mut Vec<Finding<'v>>,
     referrers: &Referrers<'_, '_, 'v>,
     number: usize,
-    uri: &Uri,
-    value: &'v Value,
+    uri: &str,
+    places: &[Place<'v>],
 ) -> Result<(), AllocError>
     ensures { Adds list.old.items list.new.items result
         (option_to_list
         (option_map (guessed_draft number)
-        (referrer referrers.now.draft (map site_of referrers.now.sites.now)
-        (reverse referrers.now.table.now) uri.now (view value.now)))) }
+        (referrer (map site_of referrers.now.sites.now) (reverse referrers.now.table.now)
+        uri.now (root_uri (map place_of places.now))))) }
 {
-    let Some(site) = referrers.of(alloc, uri, value)? else {
+    let Some(site) = referrers.of(uri, root_uri(places)) else {
         return Ok(());
     };
     let finding = guessed_draft(alloc, number, site)?;
@@ -247,8 +243,9 @@ fn add_document<'v>(
     if !is_guessed(value) {
         return Ok(());
     }
-    add_draft(alloc, list, referrers, number, &survey.source.uri, value)?;
-    add_items(alloc, list, number, survey.places.as_slice())
+    let places = survey.places.as_slice();
+    add_draft(alloc, list, referrers, number, survey.source.uri.as_str(), places)?;
+    add_items(alloc, list, number, places)
 }
 
 // Adds the notes on a source.

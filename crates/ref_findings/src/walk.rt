@@ -175,8 +175,8 @@ pub(crate) fn read_draft(alloc: Global, draft: Draft, value: &Value) -> Result<D
     read_as(alloc, draft, value, draft.detect(value))
 }
 
-/// The root of a source.
-pub(crate) fn root_of<'v>(
+// The root of a source.
+fn root_of<'v>(
     alloc: Global,
     uri: &Uri,
     value: &'v Value,
