@@ -3,12 +3,13 @@
 //     const registry = await patchsard.open([["https://example.com/order", order]]);
 //     const { value, base, scope } = await registry.lookup("https://example.com/order", "#/$defs/item");
 //     patchsard.end();
-// `value` is the caller's own object, not a copy; each document is to have a URI of its own. An error of the protocol is thrown as an `Error` with its `name` and its further members.
+// `value` is the caller's own object, not a copy; of documents whose URIs mean the same the last counts. An error of the protocol is thrown as an `Error` with its `name` and its further members.
 import { spawn } from "node:child_process";
 import { createInterface } from "node:readline";
 
 export class Patchsard {
     #waiting = [];
+    #lines = [];
     constructor(program = process.env.PATCHSARD ?? "patchsard") {
         this.process = spawn(program, ["serve"], { stdio: ["pipe", "pipe", "inherit"] });
         createInterface({ input: this.process.stdout }).on("line", (line) => {
@@ -25,7 +26,9 @@ export class Patchsard {
     }
     call(call, members) {
         if (this.ended) return Promise.reject(this.ended);
-        this.process.stdin.write(JSON.stringify({ call, ...members }) + "\n");
+        // Calls that are made together are written together.
+        if (this.#lines.length === 0) queueMicrotask(() => this.process.stdin.write(this.#lines.splice(0).join("")));
+        this.#lines.push(JSON.stringify({ call, ...members }) + "\n");
         return new Promise((resolve, reject) => this.#waiting.push({ resolve, reject }));
     }
     // `retrieve` takes the URI of a document that isn't there, and answers a schema or a promise of one; `parent` is a registry.
@@ -33,13 +36,24 @@ export class Patchsard {
         for (const remote = new Map(); ; ) {
             try {
                 const answer = await this.call("open", { documents, remote: [...remote], parent: parent?.number, ...members });
-                const values = answer.documents.map((uri, number) => (number < documents.length ? documents[number][1] : remote.get(uri)));
-                return new Registry(this, answer.registry, values, parent);
+                return new Registry(this, answer.registry, await this.#values(answer, documents, remote), parent);
             } catch (error) {
                 if (!retrieve || !error.uri || remote.has(error.uri)) throw error;
                 remote.set(error.uri, await retrieve(error.uri));
             }
         }
+    }
+    // The value of each document of an answer.
+    async #values({ registry, documents: uris }, documents, remote) {
+        const given = uris.filter((uri) => !remote.has(uri)).length;
+        const values = uris.map((uri, number) => (number < given ? documents[number][1] : remote.get(uri)));
+        if (given === documents.length) return values;
+        // The URIs of some documents mean the same, and the last of these counts. A look-up answers a URI in the form in which documents are listed.
+        for (const [uri, value] of documents) {
+            const { base } = await this.call("lookup", { registry, base: uri, scope: [], reference: "" });
+            values[uris.indexOf(base)] = value;
+        }
+        return values;
     }
     end() { this.process.stdin.end(); }
 }

@@ -34,6 +34,13 @@ test("calls that wait for one another's answers", async () => {
     assert.ok(all.every(({ value }, number) => value === (number % 2 ? order.$defs.item : order.$defs["a/b~c"])));
 });
 
+test("documents whose URIs mean the same", async () => {
+    const [first, second, third] = [{ const: 1 }, { const: 2 }, { const: 3 }];
+    const registry = await patchsard.open([["http://a/v", first], ["HTTP://a/v", second], ["http://a/w", third]]);
+    assert.equal((await registry.lookup("http://a/v", "")).value, second);
+    assert.equal((await registry.lookup("http://a/w", "")).value, third);
+});
+
 test("documents that are retrieved", async () => {
     const item = { $ref: "part" };
     const part = { type: "integer" };
