@@ -177,6 +177,9 @@ class Process:
 
     def _end(self) -> None:
         self.ended = True
+        if self._is_amid:
+            # It would say on standard error that its answer can't be written.
+            self._popen.kill()
         self._close_pipes()
         for seconds in (0.2, 2):
             # Each wait has an end, also where an interrupt left a lock of `Popen` taken.
