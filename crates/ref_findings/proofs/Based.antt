@@ -1,5 +1,5 @@
 -- What a place's own URI says of its base.
-use Rattle.std.proofs.Common.{◌≡◌, ◌∙◌, ℕ, List, Bool, true, false, Option, Some, None, Result, Ok, Err, is_some, ap, sym, refl}
+use Rattle.std.proofs.Common.{◌≡◌, ℕ, List, true, false, Option, Some, None, Result, Ok, Err, is_some, ap, sym, refl}
 use Rattle.std.specs.Prelude.{option_and_then}
 use Rattle.std.specs.Result.{result_ok}
 use Rattle.serde_json.specs.Data.{Data}
@@ -7,7 +7,7 @@ use Rattle.ref_paths.specs.Path.{Part}
 use Rattle.ref_draft.specs.declared.draft.Draft.{Draft}
 use Rattle.ref_draft.specs.Schema.{identifier}
 use Rattle.ref_uri.specs.Targets.{Refusal, uri_against}
-use Rattle.ref_definitions.specs.Places.{Place, base_within}
+use Rattle.ref_definitions.specs.Places.{base_within}
 use Rattle.ref_definitions.specs.Resources.{own_uri}
 use Rattle.ref_index.specs.Visit.{place_with}
 use Rattle.ref_findings.specs.Places.{nearest_of, nearest_base, is_refused}

@@ -1,5 +1,5 @@
 -- What is wrong with the references of documents, and what is to be noted.
-use Rattle.std.specs.Prelude.{ℕ, Bool, true, false, ◌&&◌, ◌||◌, not, is_some, ◌==◌, List, [], ◌∷◌, ◌++◌, map, flat_map, filter, length, codes, bytes_eq, if◌then◌else◌, slice_get, Option, Some, None, option_map, option_and_then, Result, Ok, Err}
+use Rattle.std.specs.Prelude.{ℕ, Bool, false, ◌&&◌, ◌||◌, not, is_some, ◌==◌, List, [], ◌∷◌, ◌++◌, map, flat_map, length, codes, bytes_eq, if◌then◌else◌, slice_get, Option, Some, None, option_map, option_and_then, Result, Ok, Err}
 use Rattle.std.specs.Option.{option_to_list, option_map_or}
 use Rattle.std.specs.List.{list_any, find, enumerate_from}
 use Rattle.serde_json.specs.Data.{Data}
@@ -11,7 +11,6 @@ use Rattle.ref_draft.specs.Schema.{text_under, trimmed_text, from_schema_uri}
 use Rattle.ref_draft.specs.Anchors.{Kind, Plain, Dynamic, anchors}
 use Rattle.ref_paths.specs.Path.{Part}
 use Rattle.ref_parts.specs.Table.{Entry, is_under, last_value, pair_count}
-use Rattle.ref_parts.specs.Pointer.{slash}
 use Rattle.ref_uri.specs.Targets.{Refusal, target, fragment_part}
 use Rattle.ref_definitions.specs.World.{Layer, World}
 use Rattle.ref_definitions.specs.Places.{Place, identifier_of}

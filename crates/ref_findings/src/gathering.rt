@@ -57,7 +57,8 @@ impl Wants {
     // Adds that a URI is known, where there is one.
     fn meet_own(&mut self, uri: Option<&Rc<Uri>>) -> Result<(), AllocError>
         ensures { OnOk result
-            (Grows self.old self.new (option_to_list (option_map (λ u. u.now.value) uri)) []) }
+            (Grows self.old self.new (option_to_list (option_map (λ u. u.now.value) uri.entry))
+            []) }
     {
         match uri {
             Some(uri) => self.meet(uri),

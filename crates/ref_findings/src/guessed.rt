@@ -89,7 +89,9 @@ impl<'p, 'v> Referrers<'_, 'p, 'v> {
             ≡ first_referrer (map site_of self.now.sites.now) (reverse self.now.table.now)
             uri.now }
     {
-        let number = self.table.get(uri, "").0?;
+        let Some(number) = self.table.get(uri, "").0 else {
+            return None;
+        };
         self.sites.get(*number)
     }
 }
@@ -244,7 +246,14 @@ fn add_document<'v>(
         return Ok(());
     }
     let places = survey.places.as_slice();
-    add_draft(alloc, list, referrers, number, survey.source.uri.as_str(), places)?;
+    add_draft(
+        alloc,
+        list,
+        referrers,
+        number,
+        survey.source.uri.as_str(),
+        places,
+    )?;
     add_items(alloc, list, number, places)
 }
 

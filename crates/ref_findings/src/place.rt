@@ -79,7 +79,7 @@ impl<'v> Place<'v> {
     ) -> Result<Place<'v>, AllocError>
         ensures value { IfOk result
             (λ p. place_of p
-            ≡ place_with path.entry (view value.now) draft outer.entry.value) }
+            ≡ place_with path.entry (view value.now) draft outer.value) }
     {
         let texts = texts_of(value, draft);
         let own = own_uri(alloc, value, draft, &outer, texts)?;

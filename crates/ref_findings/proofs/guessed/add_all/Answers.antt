@@ -1,11 +1,16 @@
-use Rattle.std.proofs.Common.{ℕ, ◌++◌, ◌∙◌, flat_map, map, take, reverse, ap, sym, subst, append_assoc, arith}
+use Rattle.std.proofs.Common.{◌≡◌, ◌++◌, ◌∙◌, flat_map, map, take, reverse, ap, sym, subst, append_assoc, arith}
 use Rattle.std.specs.List.{AllZip, enumerate_from}
 use Rattle.ref_findings.specs.Findings.{guesses_of}
 use Rattle.ref_findings.specs.Entries.{IsFindingOf}
-use Rattle.ref_findings.specs.inner.Seen.{site_of}
+use Rattle.ref_findings.specs.inner.Seen.{Survey, seen_survey, survey_in, site_of}
+use Rattle.ref_index.proofs.Noting.{all_at}
 use Rattle.ref_findings.proofs.Lists.{joined_step, joined_end}
 use Rattle.ref_findings.proofs.Guessing.{source_in}
 use Rattle.ref_findings.proofs.guessed.add_all.Goals as goal
+
+pub add_source-requires : goal.add_source-requires
+add_source-requires c =
+    all_at (λ (t : Survey). t ≡ survey_in c.args.referrers.now.draft t.source) seen_survey c.args.surveys.now c.loop-number.number c.index-surveys-number.result c.requires c.loop-number-test.true c.index-surveys-number.is
 
 pub loop-number-preserved : goal.loop-number-preserved
 loop-number-preserved c = λ fs zip.

@@ -1,6 +1,5 @@
-use Rattle.std.proofs.Common.{◌≡◌, [], false, None, sym, rules}
+use Rattle.std.proofs.Common.{◌≡◌, [], false, sym, rules}
 use Rattle.serde_json.specs.View.{view}
-use Rattle.ref_draft.specs.Schema.{identifier}
 use Rattle.ref_findings.proofs.Based.{none_own}
 use Rattle.ref_findings.proofs.place.own_uri.Goals as goal
 

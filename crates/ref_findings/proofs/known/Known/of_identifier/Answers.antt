@@ -1,4 +1,4 @@
-use Rattle.std.proofs.Common.{◌≡◌, ◌∙◌, Ok, Some, ap, sym, subst, rules}
+use Rattle.std.proofs.Common.{◌≡◌, Some, ap, sym, subst, rules}
 use Rattle.std.specs.Prelude.{IfOk}
 use Rattle.serde_json.specs.View.{view}
 use Rattle.ref_definitions.specs.Places.{base_within}

@@ -1,7 +1,6 @@
 use Rattle.std.proofs.Common.{◌≡◌, ◌∙◌, ◌==◌, true, false, None, Some, ap, sym, option_copied, option_map, rules}
-use Rattle.std.specs.Prelude.{option_and_then}
 use Rattle.ref_parts.specs.Table.{last_value}
-use Rattle.ref_findings.specs.Bearers.{Site, first_under, other_bearer, in_source}
+use Rattle.ref_findings.specs.Bearers.{Site, other_bearer}
 use Rattle.ref_findings.specs.Findings.{DuplicateAnchor}
 use Rattle.ref_findings.specs.inner.Meanings.{IsBearer}
 use Rattle.ref_findings.specs.inner.Seen.{site_of, known_in}

@@ -9,8 +9,8 @@ use Rattle.ref_findings.proofs.place.Place.is_identifier_refused.Goals as goal
 pub returns-in-Some : goal.returns-in-Some
 returns-in-Some c =
     let p = c.args.self.now in
-    let own : Some c.in-Some.field-0.now.value ≡ own_uri (place_of p) = search (rules, p.means) in
-    record { value = not_refused p.path (view p.value.now) p.draft p.outer.value c.in-Some.field-0.now.value own }
+    let own : Some c.in-Some.field-0.value ≡ own_uri (place_of p) = search (rules, p.means) in
+    record { value = not_refused p.path (view p.value.now) p.draft p.outer.value c.in-Some.field-0.value own }
 
 pub returns-in-None : goal.returns-in-None
 returns-in-None c =
