@@ -16,5 +16,6 @@ pub mod Noted
 pub mod Drafts
 pub mod Surveys
 pub mod Dynamic
+pub mod Based
 pub mod Nulls
 pub mod Descriptions

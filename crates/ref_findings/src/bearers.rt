@@ -2,7 +2,6 @@
 ghost use Rattle.std.specs.Prelude.{◌≡◌, [], ◌∷◌, ◌++◌, map, flat_map, reverse, option_map, IfOk, OnOk};
 ghost use Rattle.std.specs.Option.{option_to_list};
 ghost use Rattle.ref_parts.specs.Table.{entries_of};
-ghost use Rattle.ref_definitions.specs.Resources.{own_uri};
 ghost use Rattle.ref_findings.specs.Sources.{under_uri, unread_uri, unread_uris};
 ghost use Rattle.ref_findings.specs.Findings.{is_any_twice};
 ghost use Rattle.ref_findings.specs.Entries.{source_of};
@@ -10,7 +9,6 @@ ghost use Rattle.ref_draft.specs.Views.{anchor_name};
 ghost use Rattle.ref_findings.specs.Bearers.{source_uri, uris_of, name_at, names_at, uris_borne, names_borne};
 ghost use Rattle.ref_findings.specs.inner.Seen.{place_of, site_of};
 
-use crate::base::{base_of, nearest_base};
 use crate::place::Place;
 use crate::site::Site;
 use crate::source::Source;
@@ -23,27 +21,14 @@ use std::rc::Rc;
 // The entries of a table: two texts, and the number of a place.
 type Entries = Vec<(String, String, usize)>;
 
-/// The URI that a place has by its own identifier, where that means one.
-pub(crate) fn own_uri(alloc: Global, place: &Place<'_>) -> Result<Option<Rc<Uri>>, AllocError>
-    ensures value { IfOk result
-        (λ own. option_map (λ u. u.value) own ≡ own_uri (place_of place.now)) }
-{
-    let Some(id) = place.id() else {
-        return Ok(None);
-    };
-    let base = base_of(alloc, &place.outer, Some(id))?;
-    Ok(base.ok())
-}
-
 /// The URI of its source, which the root has too, where its own is another one.
-pub(crate) fn source_uri<'p>(place: &'p Place<'_>, own: Option<&Rc<Uri>>) -> Option<&'p Rc<Uri>>
-    ensures value { option_map (λ u. u.now.value) own.entry ≡ own_uri (place_of place.now)
-        → option_map (λ u. u.now.value) result ≡ source_uri (place_of place.now) }
+pub(crate) fn source_uri<'p>(place: &'p Place<'_>) -> Option<&'p Rc<Uri>>
+    ensures value { option_map (λ u. u.now.value) result ≡ source_uri (place_of place.now) }
 {
     if !place.is_root() {
         return None;
     }
-    match own {
+    match place.own_uri() {
         Some(own) if own.as_str() == place.outer.as_str() => None,
         _ => Some(&place.outer),
     }
@@ -98,9 +83,8 @@ fn push_uris(
         ≡ entries_of entries.old.items
         ++ map (under_uri number) (uris_of (place_of place.now))) }
 {
-    let own = own_uri(alloc, place)?;
-    push_uri(alloc, entries, source_uri(place, own.as_ref()), number)?;
-    push_uri(alloc, entries, own.as_ref(), number)
+    push_uri(alloc, entries, source_uri(place), number)?;
+    push_uri(alloc, entries, place.own_uri(), number)
 }
 
 // Adds an anchor under a base, where it has a name.
@@ -135,13 +119,13 @@ fn push_names(
     if matches!(anchors, AnchorIter::Empty) {
         return Ok(());
     }
-    let base = nearest_base(alloc, &place.outer, place.id())?;
+    let base = place.base();
     match anchors {
         AnchorIter::Empty => Ok(()),
-        AnchorIter::One(anchor) => push_name(alloc, entries, &base, anchor, number),
+        AnchorIter::One(anchor) => push_name(alloc, entries, base, anchor, number),
         AnchorIter::Two(plain, dynamic) => {
-            push_name(alloc, entries, &base, plain, number)?;
-            push_name(alloc, entries, &base, dynamic, number)
+            push_name(alloc, entries, base, plain, number)?;
+            push_name(alloc, entries, base, dynamic, number)
         }
     }
 }

@@ -1,56 +1,38 @@
 //! Whether a place has a text that means no URI.
-ghost use Rattle.std.specs.Prelude.{◌≡◌, map, Some, IfOk, option_map};
+ghost use Rattle.std.specs.Prelude.{◌≡◌, map, Some, IfOk};
 ghost use Rattle.std.specs.List.{list_any};
 ghost use Rattle.serde_json.specs.View.{view};
 ghost use Rattle.ref_uri.specs.Targets.{target};
-ghost use Rattle.ref_definitions.specs.Places.{base_within};
 ghost use Rattle.ref_definitions.specs.Wants.{reference_at, schema_at};
 ghost use Rattle.ref_findings.specs.Places.{nearest_base, is_refused, is_faulty};
 ghost use Rattle.ref_findings.specs.inner.Seen.{place_of};
 
-use crate::base::{base_of, meta_schema_uri, nearest_base};
-use crate::finding::text_under;
 use crate::place::Place;
-use ref_draft::Draft;
-use ref_uri::parts::uri_part;
+use ref_index::meanings::{dialect_in, if_meant, meta_schema_of, uri_text};
 use ref_uri::{Uri, UriRef};
 use serde_json::Value;
 use std::alloc::{AllocError, Global};
-use std::rc::Rc;
-
-// Whether its identifier means no URI.
-fn is_identifier_refused(
-    alloc: Global,
-    outer: &Rc<Uri>,
-    id: Option<&str>,
-) -> Result<bool, AllocError>
-    ensures { IfOk result
-        (λ faulty. faulty
-        ≡ is_refused
-        (Some (base_within outer.now.value (option_map (λ text. text.now) id.entry)))) }
-{
-    let base = base_of(alloc, outer, id)?;
-    Ok(base.is_err())
-}
 
 // Whether a reference means no URI against a base. It isn't resolved: what is a URI reference means a URI against each base.
 fn is_target_refused(base: &Uri, reference: &str) -> bool
     ensures { result ≡ is_refused (Some (target base.now reference.now)) }
 {
-    if reference.starts_with('#') {
+    let Some(text) = uri_text(reference) else {
         return false;
-    }
+    };
     let has_scheme = base.has_scheme();
     prove!(has_scheme);
-    UriRef::parse(uri_part(reference)).is_err()
+    UriRef::parse(text).is_err()
 }
 
 // Whether its reference means no URI.
-fn is_reference_refused(base: &Uri, value: &Value) -> bool
-    ensures { result ≡ is_refused (reference_at base.now (view value.now)) }
+fn is_reference_refused(place: &Place<'_>) -> bool
+    ensures { result
+        ≡ is_refused
+        (reference_at (nearest_base (place_of place.now)) (place_of place.now).value) }
 {
-    match text_under(value, "$ref") {
-        Some(reference) => is_target_refused(base, reference),
+    match place.reference() {
+        Some(reference) => is_target_refused(place.base(), reference),
         None => false,
     }
 }
@@ -59,14 +41,11 @@ fn is_reference_refused(base: &Uri, value: &Value) -> bool
 pub(crate) fn is_schema_refused(alloc: Global, value: &Value) -> Result<bool, AllocError>
     ensures value { IfOk result (λ refused. refused ≡ is_refused (schema_at (view value.now))) }
 {
-    let Some(text) = text_under(value, "$schema") else {
+    let Some(text) = dialect_in(value) else {
         return Ok(false);
     };
-    if Draft::from_schema_uri(text) != Draft::Unknown {
-        return Ok(false);
-    }
-    let uri = meta_schema_uri(alloc, text)?;
-    Ok(uri.is_err())
+    let uri = if_meant(meta_schema_of(alloc, text))?;
+    Ok(uri.is_none())
 }
 
 /// Which texts of a place mean no URI.
@@ -86,14 +65,10 @@ pub(crate) fn refused_in(alloc: Global, place: &Place<'_>) -> Result<Refused, Al
     ensures schema { IfOk result
         (λ r. r.schema ≡ is_refused (schema_at (place_of place.now).value)) }
 {
-    let identifier = place.id();
-    let id = is_identifier_refused(alloc, &place.outer, identifier)?;
-    let base = nearest_base(alloc, &place.outer, identifier)?;
-    let reference = is_reference_refused(&base, place.value);
     let schema = is_schema_refused(alloc, place.value)?;
     Ok(Refused {
-        id,
-        reference,
+        id: place.is_identifier_refused(),
+        reference: is_reference_refused(place),
         schema,
     })
 }

@@ -11,14 +11,13 @@ ghost use Rattle.ref_findings.specs.Held.{held_source};
 ghost use Rattle.ref_findings.specs.inner.Seen.{place_of, seen_survey};
 ghost use Rattle.ref_findings.specs.inner.Wanted.{AreMet, Grows, wanted_of, uris_seen, wanted_seen, source_asked, GoesOn};
 
-use crate::base::{meta_schema_uri, nearest_base, target_of};
-use crate::bearers::own_uri;
 use crate::place::Place;
 use crate::source::Source;
 use crate::survey::{Survey, surveys_of};
 use crate::walk::places_of;
 use ref_draft::Draft;
 use ref_error::{Retrieve, RetrieveError};
+use ref_index::meanings::{if_meant, meta_schema_of, target_of};
 use ref_uri::Uri;
 use serde_json::Value;
 use std::alloc::{AllocError, Global};
@@ -56,12 +55,13 @@ impl Wants {
     }
 
     // Adds that a URI is known, where there is one.
-    fn meet_own(&mut self, uri: Option<Rc<Uri>>) -> Result<(), AllocError>
+    fn meet_own(&mut self, uri: Option<&Rc<Uri>>) -> Result<(), AllocError>
         ensures { OnOk result
-            (Grows self.old self.new (option_to_list (option_map (λ u. u.value) uri)) []) }
+            (Grows self.old self.new (option_to_list (option_map (λ u. u.now.value) uri.entry))
+            []) }
     {
         match uri {
-            Some(uri) => self.meet(&uri),
+            Some(uri) => self.meet(uri),
             None => Ok(()),
         }
     }
@@ -83,8 +83,7 @@ impl Wants {
             (Grows self.old self.new (option_to_list (own_uri (place_of place.now)))
             (wanted_at (place_of place.now))) }
     {
-        let own = own_uri(alloc, place)?;
-        self.meet_own(own)?;
+        self.meet_own(place.own_uri())?;
         let referred = referred(alloc, place)?;
         self.want(referred)?;
         let dynamic = dynamic(alloc, place)?;
@@ -131,9 +130,7 @@ fn referred(alloc: Global, place: &Place<'_>) -> Result<Option<Rc<Uri>>, AllocEr
     let Some(reference) = place.reference() else {
         return Ok(None);
     };
-    let base = nearest_base(alloc, &place.outer, place.id())?;
-    let target = target_of(alloc, &base, reference)?;
-    Ok(target.ok())
+    if_meant(target_of(alloc, place.base(), reference))
 }
 
 // The URI that the dynamic reference of a place points into, where it has one that means a URI.
@@ -144,9 +141,7 @@ fn dynamic(alloc: Global, place: &Place<'_>) -> Result<Option<Rc<Uri>>, AllocErr
     let Some(reference) = place.dynamic() else {
         return Ok(None);
     };
-    let base = nearest_base(alloc, &place.outer, place.id())?;
-    let target = target_of(alloc, &base, reference)?;
-    Ok(target.ok())
+    if_meant(target_of(alloc, place.base(), reference))
 }
 
 // The URI that the `$schema` of a place names, where it names no known draft and means a URI.
@@ -160,8 +155,7 @@ fn dialect(alloc: Global, place: &Place<'_>) -> Result<Option<Rc<Uri>>, AllocErr
     if Draft::from_schema_uri(text) != Draft::Unknown {
         return Ok(None);
     }
-    let uri = meta_schema_uri(alloc, text)?;
-    Ok(uri.ok())
+    if_meant(meta_schema_of(alloc, text))
 }
 
 // The document under a URI, where the retriever returns one.

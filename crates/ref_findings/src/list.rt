@@ -3,7 +3,6 @@ ghost use Rattle.std.specs.Prelude.{◌≡◌, [], ◌∷◌, ◌++◌, Some, ma
 ghost use Rattle.std.specs.List.{AllZip, AllByRecursion, enumerate_from};
 ghost use Rattle.ref_draft.specs.declared.anchor.Anchor.{Anchor};
 ghost use Rattle.ref_draft.specs.Views.{anchor_name};
-ghost use Rattle.ref_findings.specs.Places.{nearest_base};
 ghost use Rattle.ref_findings.specs.Findings as spec;
 ghost use Rattle.ref_findings.specs.Findings.{finding_at, anchor_finding, source_findings, identifier_findings, reference_findings, dynamic_findings, schema_findings, anchor_findings, findings_at, place_findings, no_json, description_keyword, not_checked, description_findings, whole_findings, sources_findings, references_at, references, findings};
 ghost use Rattle.ref_findings.specs.Sources.{tree_in_place, unread_uris};
@@ -17,9 +16,8 @@ ghost use Rattle.ref_findings.specs.inner.Meanings.{IsMaybe};
 ghost use Rattle.ref_findings.specs.inner.Seen.{site_of, seen_survey, sound_in, read_of, AreSurveys, PlacesAreThere, known_in, known_among};
 ghost use Rattle.serde_json.specs.View.{view};
 
-use crate::base::nearest_base;
-use crate::bearers::{Bearers, names_of, own_uri, source_uri, unread_of, uris_of};
-use crate::finding::{Finding, Problem, Report, text_under};
+use crate::bearers::{Bearers, names_of, source_uri, unread_of, uris_of};
+use crate::finding::{Finding, Problem, Report};
 use crate::keyword::{Keyword, keyword_at};
 use crate::known::Known;
 use crate::site::Site;
@@ -28,13 +26,12 @@ use crate::survey::{
     Survey, index_of, is_any_mended, mended_of, own_indexes, read_sources, sites_of, surveys_of,
 };
 use ref_draft::{Anchor, AnchorIter, Draft};
+use ref_index::meanings::text_under;
 use ref_index::{Index, segments_of};
 use ref_parts::SortedTable;
 use ref_resolver::Layers;
-use ref_uri::Uri;
 use serde_json::Value;
 use std::alloc::{AllocError, Global};
-use std::rc::Rc;
 
 // The finding at a place.
 fn finding<'v>(
@@ -90,11 +87,7 @@ fn add_source_uri<'v>(
     ensures { Adds list.old.items list.new.items result
         (source_findings (known_in known.now) number (site_of site.now)) }
 {
-    if !site.place.is_root() {
-        return Ok(());
-    }
-    let own = own_uri(alloc, site.place)?;
-    let Some(uri) = source_uri(site.place, own.as_ref()) else {
+    let Some(uri) = source_uri(site.place) else {
         return Ok(());
     };
     let problem = known.of_uri(alloc, number, uri);
@@ -115,7 +108,7 @@ fn add_identifier<'v>(
     let Some(id) = site.place.id() else {
         return Ok(());
     };
-    let problem = known.of_identifier(alloc, number, &site.place.outer, id);
+    let problem = known.of_identifier(alloc, number, site.place, id);
     let keyword = Keyword::of_identifier(site.place.draft);
     add(alloc, list, site, Some(keyword), problem)
 }
@@ -181,14 +174,12 @@ fn add_anchor<'v>(
     known: &Known<'_, 'v>,
     number: usize,
     site: &Site<'_, 'v>,
-    base: &Rc<Uri>,
     anchor: Anchor<'v>,
 ) -> Result<(), AllocError>
-    requires { base.now.value ≡ nearest_base (site_of site.now).1 }
     ensures { Adds list.old.items list.new.items result
         (anchor_finding (known_in known.now) number (site_of site.now) (anchor_name anchor.entry)) }
 {
-    let problem = known.of_anchor(alloc, number, site, base, anchor.name());
+    let problem = known.of_anchor(alloc, number, site, anchor.name());
     let keyword = Keyword::of_anchor(site.place.draft, &anchor);
     add(alloc, list, site, Some(keyword), problem)
 }
@@ -204,17 +195,12 @@ fn add_anchors<'v>(
     ensures { Adds list.old.items list.new.items result
         (anchor_findings (known_in known.now) number (site_of site.now)) }
 {
-    let anchors = site.place.anchors();
-    if matches!(anchors, AnchorIter::Empty) {
-        return Ok(());
-    }
-    let base = nearest_base(alloc, &site.place.outer, site.place.id())?;
-    match anchors {
+    match site.place.anchors() {
         AnchorIter::Empty => Ok(()),
-        AnchorIter::One(anchor) => add_anchor(alloc, list, known, number, site, &base, anchor),
+        AnchorIter::One(anchor) => add_anchor(alloc, list, known, number, site, anchor),
         AnchorIter::Two(plain, dynamic) => {
-            add_anchor(alloc, list, known, number, site, &base, plain)?;
-            add_anchor(alloc, list, known, number, site, &base, dynamic)
+            add_anchor(alloc, list, known, number, site, plain)?;
+            add_anchor(alloc, list, known, number, site, dynamic)
         }
     }
 }

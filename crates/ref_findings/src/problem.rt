@@ -1,34 +1,36 @@
 //! What is wrong at a place, text by text.
-ghost use Rattle.std.specs.Prelude.{◌≡◌, ◌==◌, ◌||◌, [], IfOk, map, not, bytes_eq, reverse, slice_get, option_map, option_and_then, option_copied, Some, Ok};
+ghost use Rattle.std.specs.Prelude.{◌≡◌, ◌==◌, ◌||◌, ℕ, List, [], IfOk, map, not, bytes_eq, reverse, slice_get, option_map, option_and_then, option_copied, Option, Some, Result, Ok, Err};
 ghost use Rattle.std.specs.List.{list_any};
-ghost use Rattle.ref_uri.specs.Targets.{target};
+ghost use Rattle.ref_uri.specs.Targets.{Refusal, target, uri_against};
+ghost use Rattle.ref_uri.specs.Errors.{IsFaultOf};
+ghost use Rattle.ref_index.specs.Meanings.{GivesUri, meta_schema_uri};
 ghost use Rattle.ref_draft.specs.Keywords.{is_unknown};
 ghost use Rattle.ref_draft.specs.Schema.{trimmed_text, from_schema_uri};
 ghost use Rattle.ref_error.specs.Errors.{SaysFault};
-ghost use Rattle.ref_definitions.specs.Places.{base_within};
+ghost use Rattle.ref_definitions.specs.Places.{identifier_of};
 ghost use Rattle.ref_definitions.specs.Fault.{Fault};
 ghost use Rattle.ref_definitions.specs.Lookup.{lookup};
 ghost use Rattle.ref_resolver.specs.Layered.{world_in};
 ghost use Rattle.serde_json.specs.View.{view};
 ghost use Rattle.ref_parts.specs.Table.{last_value};
 ghost use Rattle.ref_findings.specs.Bearers.{first_under, other_bearer};
-ghost use Rattle.ref_findings.specs.Findings.{is_among, is_meta_schema, missing_problem, by_fault, is_doubled, world_at, by_target, is_dialect, by_dialect, reference_problem, value_problem, recursive_text_problem, recursive_problem, dynamic_problem, schema_problem, uri_problem, by_base, name_problem, anchor_problem};
-ghost use Rattle.ref_findings.specs.Places.{nearest_base};
-ghost use Rattle.ref_findings.specs.inner.Meanings.{IsMeaning, IsMaybe, IsWhy, IsBearer, is_unretrievable};
-ghost use Rattle.ref_findings.specs.inner.Meanings as meanings;
-ghost use Rattle.ref_findings.specs.inner.Seen.{site_of, known_in};
+ghost use Rattle.ref_findings.specs.Findings as spec;
+ghost use Rattle.ref_findings.specs.Findings.{InvalidUri, is_among, is_meta_schema, missing_problem, by_fault, is_doubled, world_at, by_target, is_dialect, by_dialect, reference_problem, value_problem, recursive_text_problem, recursive_problem, dynamic_problem, schema_problem, uri_problem, by_base, name_problem, anchor_problem};
+ghost use Rattle.ref_findings.specs.inner.Meanings.{IsMaybe, IsWhy, IsBearer, is_unretrievable};
+ghost use Rattle.ref_findings.specs.inner.Seen.{place_of, site_of, known_in};
 
-use crate::base::{Meaning, base_of, meta_schema_uri, nearest_base, target_of};
 use crate::finding::{Bearer, Problem};
 use crate::known::Known;
+use crate::place::Place;
 use crate::site::Site;
 use ref_draft::{Draft, meta, trim_hashes};
 use ref_error::Error;
+use ref_index::meanings::{meta_schema_of, resolved, uri_text};
 use ref_index::segments_of;
 use ref_parts::List;
 use ref_resolver::{Layers, Resolver};
-use ref_uri::Uri;
-use ref_uri::parts::{parts, uri_part};
+use ref_uri::parts::parts;
+use ref_uri::{Uri, UriFault};
 use serde_json::Value;
 use std::alloc::{AllocError, Global};
 use std::rc::Rc;
@@ -129,6 +131,19 @@ fn unresolvable_problem<'v>(uri: Rc<Uri>, reference: &str, error: Error) -> Opti
     Some(Problem::LeadsNowhere { uri, error })
 }
 
+// What is wrong with a text that means no URI.
+fn refused<'v>(fault: UriFault) -> Result<Option<Problem<'v>>, AllocError>
+    ensures { (meaning : Result (List ℕ) Refusal) (by : Result (List ℕ) Refusal → Option spec.Problem)
+        → IsFaultOf meaning fault
+        → ((refusal : Refusal) → by (Err refusal) ≡ Some (InvalidUri refusal))
+        → IfOk result (IsMaybe (by meaning)) }
+{
+    match fault {
+        UriFault::Invalid(error) => Ok(Some(Problem::InvalidUri(error))),
+        UriFault::Memory(error) => Err(error),
+    }
+}
+
 // What is wrong with the text of a `$recursiveRef`.
 fn recursive_text_problem<'v>(text: &str) -> Option<Problem<'v>>
     ensures { IsMaybe (recursive_text_problem text.now) result }
@@ -191,12 +206,11 @@ impl<'k, 'v> Known<'k, 'v> {
         first.source != last.source
     }
 
-    // Where a reference of a place with a base is looked up, which points into a URI.
-    fn layers_at(&self, site: &Site<'_, 'v>, base: &Uri, uri: &str) -> Layers<'k>
-        requires { base.now ≡ nearest_base (site_of site.now).1 }
+    // Where a reference of a place is looked up, which points into a URI.
+    fn layers_at(&self, site: &Site<'_, 'v>, uri: &str) -> Layers<'k>
         ensures { world_in result ≡ world_at (known_in self.now) (site_of site.now) uri.now }
     {
-        if uri != base.as_str() {
+        if uri != site.place.base().as_str() {
             return self.layers;
         }
         if !self.is_doubled(uri) {
@@ -213,11 +227,9 @@ impl<'k, 'v> Known<'k, 'v> {
         &self,
         alloc: Global,
         site: &Site<'_, 'v>,
-        base: &Rc<Uri>,
         reference: &str,
         uri: Rc<Uri>,
     ) -> Result<Option<Problem<'v>>, AllocError>
-        requires { base.now.value ≡ nearest_base (site_of site.now).1 }
         ensures { IfOk result
             (IsMaybe
             (by_target (known_in self.now) (site_of site.now) reference.now (Ok uri.value))) }
@@ -225,44 +237,39 @@ impl<'k, 'v> Known<'k, 'v> {
         if self.is_unread(uri.as_str()) {
             return Ok(None);
         }
-        let layers = self.layers_at(site, base, uri.as_str());
-        match fault_at(alloc, layers, base, reference)? {
+        let layers = self.layers_at(site, uri.as_str());
+        match fault_at(alloc, layers, site.place.base(), reference)? {
             Some(error) => Ok(unresolvable_problem(uri, reference, error)),
             None => Ok(None),
         }
     }
 
     // The URI that a reference points into, which isn't resolved again where it was for the index.
-    fn target(&self, alloc: Global, base: &Rc<Uri>, reference: &str) -> Result<Meaning, AllocError>
-        ensures { IfOk result (IsMeaning (target base.now.value reference.now)) }
+    fn target(&self, alloc: Global, base: &Rc<Uri>, reference: &str) -> Result<Rc<Uri>, UriFault>
+        ensures { GivesUri (target base.now.value reference.now) result }
     {
-        if reference.starts_with('#') {
-            return Ok(Ok(base.clone()?));
-        }
-        match self
-            .layers
-            .resolved_uri(&base.borrow(), uri_part(reference))
-        {
-            Some(uri) => Ok(Ok(uri.clone()?)),
-            None => target_of(alloc, base, reference),
+        let Some(text) = uri_text(reference) else {
+            return Ok(base.clone()?);
+        };
+        match self.layers.resolved_uri(&base.borrow(), text) {
+            Some(uri) => Ok(uri.clone()?),
+            None => resolved(alloc, base, text),
         }
     }
 
-    // What is wrong with the text of a reference at a place with a base.
+    // What is wrong with the text of a reference at a place.
     fn of_reference(
         &self,
         alloc: Global,
         site: &Site<'_, 'v>,
-        base: &Rc<Uri>,
         reference: &str,
     ) -> Result<Option<Problem<'v>>, AllocError>
-        requires { base.now.value ≡ nearest_base (site_of site.now).1 }
         ensures { IfOk result
             (IsMaybe (reference_problem (known_in self.now) (site_of site.now) reference.now)) }
     {
-        match self.target(alloc, base, reference)? {
-            Ok(uri) => self.followed(alloc, site, base, reference, uri),
-            Err(error) => Ok(Some(Problem::InvalidUri(error))),
+        match self.target(alloc, site.place.base(), reference) {
+            Ok(uri) => self.followed(alloc, site, reference, uri),
+            Err(fault) => refused(fault),
         }
     }
 
@@ -279,8 +286,7 @@ impl<'k, 'v> Known<'k, 'v> {
         let Some(reference) = value.as_str() else {
             return Ok(Some(Problem::NotAText));
         };
-        let base = nearest_base(alloc, &site.place.outer, site.place.id())?;
-        self.of_reference(alloc, site, &base, reference)
+        self.of_reference(alloc, site, reference)
     }
 
     /// What is wrong with a value under the keyword that the draft of a place has for dynamic references.
@@ -336,11 +342,11 @@ impl<'k, 'v> Known<'k, 'v> {
     // What is wrong with a text that names the meta-schema of no draft.
     fn of_dialect(&self, alloc: Global, text: &str) -> Result<Option<Problem<'v>>, AllocError>
         ensures { IfOk result
-            (IsMaybe (by_dialect (known_in self.now) (meanings.meta_schema_uri text.now))) }
+            (IsMaybe (by_dialect (known_in self.now) (meta_schema_uri text.now))) }
     {
-        match meta_schema_uri(alloc, text)? {
+        match meta_schema_of(alloc, text) {
             Ok(uri) => Ok(self.of_dialect_uri(uri)),
-            Err(error) => Ok(Some(Problem::InvalidUri(error))),
+            Err(fault) => refused(fault),
         }
     }
 
@@ -388,21 +394,39 @@ impl<'k, 'v> Known<'k, 'v> {
         Ok(Some(Problem::DuplicateIdentifier { uri, first }))
     }
 
-    /// What is wrong with an identifier of the place with a number.
-    pub fn of_identifier(
+    // What is wrong with an identifier of the place with a number, which is resolved against the base around it.
+    fn of_identifier_text(
         &self,
         alloc: Global,
         number: usize,
         outer: &Rc<Uri>,
         id: &str,
     ) -> Result<Option<Problem<'v>>, AllocError>
-        ensures value { IfOk result
+        ensures { IfOk result
             (IsMaybe
-            (by_base (known_in self.now) number (base_within outer.now.value (Some id.now)))) }
+            (by_base (known_in self.now) number (uri_against outer.now.value id.now))) }
     {
-        match base_of(alloc, outer, Some(id))? {
+        match resolved(alloc, outer, id) {
             Ok(uri) => self.of_uri(alloc, number, &uri),
-            Err(error) => Ok(Some(Problem::InvalidUri(error))),
+            Err(fault) => refused(fault),
+        }
+    }
+
+    /// What is wrong with the identifier of the place with a number. Where it means no URI, it is resolved once more, to say why.
+    pub fn of_identifier(
+        &self,
+        alloc: Global,
+        number: usize,
+        place: &Place<'_>,
+        id: &str,
+    ) -> Result<Option<Problem<'v>>, AllocError>
+        requires { identifier_of (place_of place.now) ≡ Some id.now }
+        ensures value { IfOk result
+            (IsMaybe (by_base (known_in self.now) number (place_of place.now).base)) }
+    {
+        match place.own_uri() {
+            Some(uri) => self.of_uri(alloc, number, uri),
+            None => self.of_identifier_text(alloc, number, &place.outer, id),
         }
     }
 
@@ -413,13 +437,12 @@ impl<'k, 'v> Known<'k, 'v> {
         alloc: Global,
         number: usize,
         site: &Site<'_, 'v>,
-        base: &Rc<Uri>,
         name: &str,
     ) -> Result<Option<Problem<'v>>, AllocError>
-        requires { base.now.value ≡ nearest_base (site_of site.now).1 }
         ensures { IfOk result
             (IsMaybe (name_problem (known_in self.now) number (site_of site.now) name.now)) }
     {
+        let base = site.place.base();
         let first = self.names.get(base.as_str(), name).0;
         let Some(first) = self.bearer(alloc, number, first)? else {
             return Ok(None);
@@ -437,16 +460,14 @@ impl<'k, 'v> Known<'k, 'v> {
         alloc: Global,
         number: usize,
         site: &Site<'_, 'v>,
-        base: &Rc<Uri>,
         name: &str,
     ) -> Result<Option<Problem<'v>>, AllocError>
-        requires { base.now.value ≡ nearest_base (site_of site.now).1 }
         ensures value { IfOk result
             (IsMaybe (anchor_problem (known_in self.now) number (site_of site.now) name.now)) }
     {
         if name.starts_with('/') {
             return Ok(Some(Problem::NamesNothing));
         }
-        self.of_name(alloc, number, site, base, name)
+        self.of_name(alloc, number, site, name)
     }
 }

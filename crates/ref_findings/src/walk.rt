@@ -12,7 +12,6 @@ ghost use Rattle.ref_findings.specs.inner.Seen.{draft_by, read_again};
 ghost use Rattle.ref_findings.specs.declared.place.Place.{Place};
 ghost use Rattle.ref_findings.specs.inner.Seen.{place_of, IsKeywordBelow};
 
-use crate::base::nearest_base;
 use crate::fault::is_schema_refused;
 use crate::place::Place;
 use ref_draft::{Child, Draft};
@@ -102,7 +101,7 @@ fn push_child<'v>(
     let outer = base.clone()?;
     let keyword = keyword_path(alloc, path, last, keyword)?;
     let path = path_within(alloc, keyword, segment)?;
-    let place = Place::new(path, value, draft, outer);
+    let place = Place::new(alloc, path, value, draft, outer)?;
     push(places, place)
 }
 
@@ -145,7 +144,7 @@ fn push_below<'v>(
         → OnOk result (ChildrenAreAt (place_of p)) }
 {
     let place = &places[number];
-    let base = nearest_base(alloc, &place.outer, place.id())?;
+    let base = place.base().clone()?;
     let path = place.path.clone()?;
     let (value, draft) = (place.value, place.draft);
     push_children(alloc, places, &path, value, draft, &base)
@@ -188,7 +187,7 @@ fn root_of<'v>(
 {
     let uri = uri.clone()?;
     let outer = shared(alloc, uri)?;
-    Ok(Place::new(JsonPointerNode::new(), value, draft, outer))
+    Place::new(alloc, JsonPointerNode::new(), value, draft, outer)
 }
 
 /// The places of a source, where a draft is that of a root that names none: the root, then its children by the keywords that

@@ -1,6 +1,6 @@
 use Rattle.std.proofs.Common.{◌≡◌, ◌++◌, Some, OnOk, sym, subst, rules}
 use Rattle.std.specs.Prelude.{IfOk, option_and_then}
-use Rattle.ref_definitions.specs.Places.{base_within, identifier_of}
+use Rattle.ref_definitions.specs.Places.{identifier_of}
 use Rattle.ref_findings.specs.Findings.{by_base, finding_at, identifier_problem}
 use Rattle.std.specs.List.{AllZip}
 use Rattle.ref_findings.specs.Entries.{IsFindingOf}
@@ -15,6 +15,6 @@ returns c = λ fs zip.
     let s = site_of c.args.site.now in
     let there : identifier_of s.1 ≡ Some c.in-Some.id.now = search rules in
     let said : IfOk c.of_identifier-problem.result (IsMaybe (identifier_problem k n s.1)) =
-    subst (λ o. IfOk c.of_identifier-problem.result (IsMaybe (option_and_then (λ id. by_base k n (base_within s.1.outer o)) o))) (sym there) c.of_identifier-problem.ensures.value in
+    subst (λ o. IfOk c.of_identifier-problem.result (IsMaybe (option_and_then (λ id. by_base k n s.1.base) o))) (sym there) c.of_identifier-problem.ensures.value in
     subst (λ w. OnOk c.add.result (AllZip IsFindingOf c.add.new.list.items (fs ++ finding_at s (Some w) (identifier_problem k n s.1)))) c.of_identifier-keyword.ensures.value
     (c.add.ensures (identifier_problem k n s.1) said fs zip)

@@ -1,10 +1,10 @@
 use Rattle.std.proofs.Common.{◌≡◌, ◌∙◌, List, ◌++◌, map, ap, subst, OnOk, rules}
 use Rattle.std.proofs.lemmas.Option.{get_or_from_slice_get}
 use Rattle.serde_json.specs.View.{view}
-use Rattle.ref_definitions.specs.Places.{base_within, child_place}
+use Rattle.ref_definitions.specs.Places.{child_place}
 use Rattle.ref_index.specs.Listed.{ChildrenAreAt}
 use Rattle.ref_index.proofs.Listing.{on_ok}
-use Rattle.ref_findings.specs.Places.{nearest_of, nearest_base, children_near}
+use Rattle.ref_findings.specs.Places.{nearest_base, children_near}
 use Rattle.ref_findings.specs.declared.place.Place.{Place}
 use Rattle.ref_findings.specs.inner.Seen.{place_of}
 use Rattle.ref_draft.specs.Children.{walked_children}
@@ -18,7 +18,7 @@ returns-clause-added c = λ v at.
     let same : w ≡ v = c.index-place.ensures ∙ get_or_from_slice_get c.args.places.now.items c.args.number v w at in
     let p = place_of w in
     let children = map (read_again w.draft) (walked_children w.draft (view w.value.now)) in
-    let based : c.in_ok-base.base.value ≡ nearest_base p = c.in_ok-base.ensures.value ∙ ap (λ id. nearest_of p.outer (base_within p.outer id)) c.id.ensures.value in
+    let based : c.in_ok-base.base.value ≡ nearest_base p = search (rules, c.base.ensures.value) in
     let path : c.in_ok-path.path ≡ w.path = search rules in
     subst (λ u. OnOk c.push_children.result ((more : List Place) × (c.push_children.new.places.items ≡ c.args.places.now.items ++ more) × (map place_of more ≡ children_near (place_of u)))) same
     (on_ok c.push_children.result

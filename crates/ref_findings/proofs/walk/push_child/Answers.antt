@@ -9,7 +9,7 @@ use Rattle.ref_findings.proofs.walk.push_child.Goals as goal
 
 pub returns-clause-added : goal.returns-clause-added
 returns-clause-added c =
-    let p = c.new-place.result in
+    let p = c.in_ok-place.place in
     let above = c.args.path.now in
     let key = Key c.args.child.keyword.now in
     let rest = segment_parts c.args.child.segment in
@@ -18,7 +18,7 @@ returns-clause-added c =
     (λ grown. (
       p,
       grown,
-      place_is p c.in_ok-path.path (view c.args.child.value.now) c.in_ok-draft.draft c.in_ok-outer.outer.value above c.args.base.now.value (read_again c.args.parent (walked_child c.args.child)) c.new-place.ensures.value whole
+      place_is p c.in_ok-path.path (view c.args.child.value.now) c.in_ok-draft.draft c.in_ok-outer.outer.value above c.args.base.now.value (read_again c.args.parent (walked_child c.args.child)) c.in_ok-place.ensures.value whole
           refl c.in_ok-draft.ensures c.in_ok-outer.ensures.cases,
     ))
     c.push.ensures
