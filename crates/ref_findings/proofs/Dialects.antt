@@ -4,7 +4,7 @@ use Rattle.std.specs.Prelude.{option_and_then, if◌then◌else◌}
 use Rattle.ref_draft.specs.Keywords.{is_unknown}
 use Rattle.ref_draft.specs.Schema.{from_schema_uri}
 use Rattle.ref_findings.specs.Findings.{Known, by_dialect, schema_problem}
-use Rattle.ref_findings.specs.inner.Meanings.{meta_schema_uri}
+use Rattle.ref_index.specs.Meanings.{meta_schema_uri}
 
 pub not_true : (b : Bool) → not b ≡ true → b ≡ false
 not_true true is = cc

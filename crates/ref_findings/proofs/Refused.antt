@@ -1,12 +1,21 @@
 -- Which references mean no URI.
-use Rattle.std.proofs.Common.{◌≡◌, ◌∙◌, ℕ, zero, suc, Bool, true, false, ◌&&◌, not, List, [], ◌∷◌, Some, Ok, take, get_or, cond, eqb, is_some, ap, refl}
+use Rattle.std.proofs.Common.{◌≡◌, ◌∙◌, ℕ, zero, suc, Bool, true, false, ◌&&◌, not, List, [], ◌∷◌, Option, Some, None, Result, Ok, Err, option_map, take, get_or, cond, eqb, is_some, ap, refl}
 use Rattle.std.specs.List.{list_any, before_last, ends_with}
 use Rattle.ref_uri.specs.Components.{scheme}
 use Rattle.ref_uri.specs.Reference.{is_uri_reference}
 use Rattle.ref_uri.specs.Targets.{uri_part, uri_against, target}
 use Rattle.ref_uri.proofs.Hashes.{is_hash}
 use Rattle.ref_uri.proofs.Meanings.{against_target, against_refused}
+use Rattle.std.specs.Result.{result_ok}
+use Rattle.ref_uri.specs.Targets.{Refusal}
 use Rattle.ref_findings.specs.Places.{is_refused}
+
+-- a text means no URI where it has none
+pub none_refused : {X : Type 0} (uri : Option X) (f : X → List ℕ) (meaning : Result (List ℕ) Refusal) → option_map f uri ≡ result_ok meaning → not (is_some uri) ≡ is_refused (Some meaning)
+none_refused None f (Ok u) is = cc
+none_refused None f (Err refusal) is = refl
+none_refused (Some x) f (Ok u) is = refl
+none_refused (Some x) f (Err refusal) is = cc
 
 -- a text that doesn't begin with `#` has no beginning that does
 first_of_take : (n : ℕ) (text : List ℕ) → eqb (get_or text 0 0) 35 ≡ false → eqb (get_or (take n text) 0 0) 35 ≡ false

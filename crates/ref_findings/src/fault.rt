@@ -7,11 +7,8 @@ ghost use Rattle.ref_definitions.specs.Wants.{reference_at, schema_at};
 ghost use Rattle.ref_findings.specs.Places.{nearest_base, is_refused, is_faulty};
 ghost use Rattle.ref_findings.specs.inner.Seen.{place_of};
 
-use crate::base::meta_schema_uri;
-use crate::finding::text_under;
 use crate::place::Place;
-use ref_draft::Draft;
-use ref_uri::parts::uri_part;
+use ref_index::meanings::{dialect_in, if_meant, meta_schema_of, uri_text};
 use ref_uri::{Uri, UriRef};
 use serde_json::Value;
 use std::alloc::{AllocError, Global};
@@ -20,12 +17,12 @@ use std::alloc::{AllocError, Global};
 fn is_target_refused(base: &Uri, reference: &str) -> bool
     ensures { result ≡ is_refused (Some (target base.now reference.now)) }
 {
-    if reference.starts_with('#') {
+    let Some(text) = uri_text(reference) else {
         return false;
-    }
+    };
     let has_scheme = base.has_scheme();
     prove!(has_scheme);
-    UriRef::parse(uri_part(reference)).is_err()
+    UriRef::parse(text).is_err()
 }
 
 // Whether its reference means no URI.
@@ -44,14 +41,11 @@ fn is_reference_refused(place: &Place<'_>) -> bool
 pub(crate) fn is_schema_refused(alloc: Global, value: &Value) -> Result<bool, AllocError>
     ensures value { IfOk result (λ refused. refused ≡ is_refused (schema_at (view value.now))) }
 {
-    let Some(text) = text_under(value, "$schema") else {
+    let Some(text) = dialect_in(value) else {
         return Ok(false);
     };
-    if Draft::from_schema_uri(text) != Draft::Unknown {
-        return Ok(false);
-    }
-    let uri = meta_schema_uri(alloc, text)?;
-    Ok(uri.is_err())
+    let uri = if_meant(meta_schema_of(alloc, text))?;
+    Ok(uri.is_none())
 }
 
 /// Which texts of a place mean no URI.

@@ -1,14 +1,11 @@
 //! What is found.
-ghost use Rattle.std.specs.Prelude.{◌≡◌, option_map};
-ghost use Rattle.serde_json.specs.View.{view};
-ghost use Rattle.ref_draft.specs.Schema.{text_under};
+ghost use Rattle.std.specs.Prelude.{◌≡◌};
 ghost use Rattle.ref_findings.specs.Entries.{level_of};
 
 use ref_draft::Draft;
 use ref_error::Error;
 use ref_parts::path::JsonPointerSegment;
 use ref_uri::{Uri, UriError};
-use serde_json::Value;
 use std::rc::Rc;
 
 /// What is found in sources.
@@ -135,11 +132,4 @@ impl Problem<'_> {
             _ => Level::Error,
         }
     }
-}
-
-/// The text under a keyword of a value.
-pub(crate) fn text_under<'v>(value: &'v Value, keyword: &str) -> Option<&'v str>
-    ensures value { option_map (λ text. text.now) result ≡ text_under keyword.now (view value.now) }
-{
-    value.get(keyword).and_then(Value::as_str)
 }

@@ -11,13 +11,13 @@ ghost use Rattle.ref_findings.specs.Held.{held_source};
 ghost use Rattle.ref_findings.specs.inner.Seen.{place_of, seen_survey};
 ghost use Rattle.ref_findings.specs.inner.Wanted.{AreMet, Grows, wanted_of, uris_seen, wanted_seen, source_asked, GoesOn};
 
-use crate::base::{meta_schema_uri, target_of};
 use crate::place::Place;
 use crate::source::Source;
 use crate::survey::{Survey, surveys_of};
 use crate::walk::places_of;
 use ref_draft::Draft;
 use ref_error::{Retrieve, RetrieveError};
+use ref_index::meanings::{if_meant, meta_schema_of, target_of};
 use ref_uri::Uri;
 use serde_json::Value;
 use std::alloc::{AllocError, Global};
@@ -130,8 +130,7 @@ pub(crate) fn referred(alloc: Global, place: &Place<'_>) -> Result<Option<Rc<Uri
     let Some(reference) = place.reference() else {
         return Ok(None);
     };
-    let target = target_of(alloc, place.base(), reference)?;
-    Ok(target.ok())
+    if_meant(target_of(alloc, place.base(), reference))
 }
 
 // The URI that the dynamic reference of a place points into, where it has one that means a URI.
@@ -142,8 +141,7 @@ fn dynamic(alloc: Global, place: &Place<'_>) -> Result<Option<Rc<Uri>>, AllocErr
     let Some(reference) = place.dynamic() else {
         return Ok(None);
     };
-    let target = target_of(alloc, place.base(), reference)?;
-    Ok(target.ok())
+    if_meant(target_of(alloc, place.base(), reference))
 }
 
 // The URI that the `$schema` of a place names, where it names no known draft and means a URI.
@@ -157,8 +155,7 @@ fn dialect(alloc: Global, place: &Place<'_>) -> Result<Option<Rc<Uri>>, AllocErr
     if Draft::from_schema_uri(text) != Draft::Unknown {
         return Ok(None);
     }
-    let uri = meta_schema_uri(alloc, text)?;
-    Ok(uri.ok())
+    if_meant(meta_schema_of(alloc, text))
 }
 
 // The document under a URI, where the retriever returns one.

@@ -12,12 +12,13 @@ ghost use Rattle.ref_findings.specs.inner.Adding.{Adds};
 ghost use Rattle.ref_findings.specs.inner.Seen.{place_of, site_of, seen_survey, survey_in, AreSurveys};
 
 use crate::bearers::{Entries, push_uri, table_of};
-use crate::finding::{Bearer, Finding, Problem, text_under};
+use crate::finding::{Bearer, Finding, Problem};
 use crate::gathering::referred;
 use crate::place::Place;
 use crate::site::Site;
 use crate::survey::Survey;
 use ref_draft::Draft;
+use ref_index::meanings::text_under;
 use ref_index::segments_of;
 use ref_parts::SortedTable;
 use ref_uri::Uri;

@@ -8,8 +8,8 @@ ghost use Rattle.ref_findings.specs.Places.{dynamic_keyword};
 ghost use Rattle.ref_findings.specs.Findings.{anchor_keyword};
 ghost use Rattle.ref_findings.specs.inner.Keywords.{keyword_text};
 
-use crate::finding::text_under;
 use ref_draft::{Anchor, Draft};
+use ref_index::meanings::text_under;
 use serde_json::Value;
 
 /// A keyword whose text a finding is about.

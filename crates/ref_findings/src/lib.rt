@@ -6,7 +6,6 @@
 //! there over the plain documents.
 #![tactic(auto)]
 
-mod base;
 mod bearers;
 pub mod examples;
 mod fault;

@@ -17,7 +17,7 @@ ghost use Rattle.ref_findings.specs.inner.Seen.{site_of, seen_survey, sound_in, 
 ghost use Rattle.serde_json.specs.View.{view};
 
 use crate::bearers::{Bearers, names_of, source_uri, unread_of, uris_of};
-use crate::finding::{Finding, Problem, Report, text_under};
+use crate::finding::{Finding, Problem, Report};
 use crate::guessed::add_guesses;
 use crate::keyword::{Keyword, keyword_at};
 use crate::known::Known;
@@ -27,6 +27,7 @@ use crate::survey::{
     Survey, index_of, is_any_mended, mended_of, own_indexes, read_sources, sites_of, surveys_of,
 };
 use ref_draft::{Anchor, AnchorIter, Draft};
+use ref_index::meanings::text_under;
 use ref_index::{Index, segments_of};
 use ref_parts::SortedTable;
 use ref_resolver::Layers;

@@ -8,11 +8,10 @@ ghost use Rattle.ref_definitions.specs.Resources.{own_uri};
 ghost use Rattle.ref_index.specs.Visit.{place_with};
 ghost use Rattle.ref_findings.specs.inner.Plain.{IsPlain, AreAmong};
 
-use crate::base::resolved;
-use crate::finding::text_under;
 use crate::keyword::Keyword;
 use crate::texts::{Texts, texts_of};
 use ref_draft::{AnchorIter, Draft, ResourceRef};
+use ref_index::meanings::{if_meant, resolved, text_under};
 use ref_index::{Below, ValueRef, Visit};
 use ref_parts::path::JsonPointerNode;
 use ref_uri::Uri;
@@ -39,8 +38,7 @@ fn own_uri(
     let Some(id) = ResourceRef::new(value, draft).id() else {
         return Ok(None);
     };
-    let meaning = resolved(alloc, outer, id)?;
-    Ok(meaning.ok())
+    if_meant(resolved(alloc, outer, id))
 }
 
 /// A place where a schema is: its path, value and draft, the base URI around it, and its own.

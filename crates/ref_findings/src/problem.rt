@@ -1,7 +1,9 @@
 //! What is wrong at a place, text by text.
-ghost use Rattle.std.specs.Prelude.{◌≡◌, ◌==◌, ◌||◌, [], IfOk, map, not, bytes_eq, reverse, slice_get, option_map, option_and_then, option_copied, Some, Ok};
+ghost use Rattle.std.specs.Prelude.{◌≡◌, ◌==◌, ◌||◌, ℕ, List, [], IfOk, map, not, bytes_eq, reverse, slice_get, option_map, option_and_then, option_copied, Option, Some, Result, Ok, Err};
 ghost use Rattle.std.specs.List.{list_any};
-ghost use Rattle.ref_uri.specs.Targets.{target, uri_against};
+ghost use Rattle.ref_uri.specs.Targets.{Refusal, target, uri_against};
+ghost use Rattle.ref_uri.specs.Errors.{IsFaultOf};
+ghost use Rattle.ref_index.specs.Meanings.{GivesUri, meta_schema_uri};
 ghost use Rattle.ref_draft.specs.Keywords.{is_unknown};
 ghost use Rattle.ref_draft.specs.Schema.{trimmed_text, from_schema_uri};
 ghost use Rattle.ref_error.specs.Errors.{SaysFault};
@@ -12,23 +14,23 @@ ghost use Rattle.ref_resolver.specs.Layered.{world_in};
 ghost use Rattle.serde_json.specs.View.{view};
 ghost use Rattle.ref_parts.specs.Table.{last_value};
 ghost use Rattle.ref_findings.specs.Bearers.{first_under, other_bearer};
-ghost use Rattle.ref_findings.specs.Findings.{is_among, is_meta_schema, missing_problem, by_fault, is_doubled, world_at, by_target, is_dialect, by_dialect, reference_problem, value_problem, recursive_text_problem, recursive_problem, dynamic_problem, schema_problem, uri_problem, by_base, name_problem, anchor_problem};
-ghost use Rattle.ref_findings.specs.inner.Meanings.{IsMeaning, IsMaybe, IsWhy, IsBearer, is_unretrievable};
-ghost use Rattle.ref_findings.specs.inner.Meanings as meanings;
+ghost use Rattle.ref_findings.specs.Findings as spec;
+ghost use Rattle.ref_findings.specs.Findings.{InvalidUri, is_among, is_meta_schema, missing_problem, by_fault, is_doubled, world_at, by_target, is_dialect, by_dialect, reference_problem, value_problem, recursive_text_problem, recursive_problem, dynamic_problem, schema_problem, uri_problem, by_base, name_problem, anchor_problem};
+ghost use Rattle.ref_findings.specs.inner.Meanings.{IsMaybe, IsWhy, IsBearer, is_unretrievable};
 ghost use Rattle.ref_findings.specs.inner.Seen.{place_of, site_of, known_in};
 
-use crate::base::{Meaning, meta_schema_uri, resolved, target_of};
 use crate::finding::{Bearer, Problem};
 use crate::known::Known;
 use crate::place::Place;
 use crate::site::Site;
 use ref_draft::{Draft, meta, trim_hashes};
 use ref_error::Error;
+use ref_index::meanings::{meta_schema_of, resolved, uri_text};
 use ref_index::segments_of;
 use ref_parts::List;
 use ref_resolver::{Layers, Resolver};
-use ref_uri::Uri;
-use ref_uri::parts::{parts, uri_part};
+use ref_uri::parts::parts;
+use ref_uri::{Uri, UriFault};
 use serde_json::Value;
 use std::alloc::{AllocError, Global};
 use std::rc::Rc;
@@ -127,6 +129,19 @@ fn unresolvable_problem<'v>(uri: Rc<Uri>, reference: &str, error: Error) -> Opti
         return missing(uri, reference);
     }
     Some(Problem::LeadsNowhere { uri, error })
+}
+
+// What is wrong with a text that means no URI.
+fn refused<'v>(fault: UriFault) -> Result<Option<Problem<'v>>, AllocError>
+    ensures { (meaning : Result (List ℕ) Refusal) (by : Result (List ℕ) Refusal → Option spec.Problem)
+        → IsFaultOf meaning fault
+        → ((refusal : Refusal) → by (Err refusal) ≡ Some (InvalidUri refusal))
+        → IfOk result (IsMaybe (by meaning)) }
+{
+    match fault {
+        UriFault::Invalid(error) => Ok(Some(Problem::InvalidUri(error))),
+        UriFault::Memory(error) => Err(error),
+    }
 }
 
 // What is wrong with the text of a `$recursiveRef`.
@@ -230,18 +245,15 @@ impl<'k, 'v> Known<'k, 'v> {
     }
 
     // The URI that a reference points into, which isn't resolved again where it was for the index.
-    fn target(&self, alloc: Global, base: &Rc<Uri>, reference: &str) -> Result<Meaning, AllocError>
-        ensures { IfOk result (IsMeaning (target base.now.value reference.now)) }
+    fn target(&self, alloc: Global, base: &Rc<Uri>, reference: &str) -> Result<Rc<Uri>, UriFault>
+        ensures { GivesUri (target base.now.value reference.now) result }
     {
-        if reference.starts_with('#') {
-            return Ok(Ok(base.clone()?));
-        }
-        match self
-            .layers
-            .resolved_uri(&base.borrow(), uri_part(reference))
-        {
-            Some(uri) => Ok(Ok(uri.clone()?)),
-            None => target_of(alloc, base, reference),
+        let Some(text) = uri_text(reference) else {
+            return Ok(base.clone()?);
+        };
+        match self.layers.resolved_uri(&base.borrow(), text) {
+            Some(uri) => Ok(uri.clone()?),
+            None => resolved(alloc, base, text),
         }
     }
 
@@ -255,9 +267,9 @@ impl<'k, 'v> Known<'k, 'v> {
         ensures { IfOk result
             (IsMaybe (reference_problem (known_in self.now) (site_of site.now) reference.now)) }
     {
-        match self.target(alloc, site.place.base(), reference)? {
+        match self.target(alloc, site.place.base(), reference) {
             Ok(uri) => self.followed(alloc, site, reference, uri),
-            Err(error) => Ok(Some(Problem::InvalidUri(error))),
+            Err(fault) => refused(fault),
         }
     }
 
@@ -330,11 +342,11 @@ impl<'k, 'v> Known<'k, 'v> {
     // What is wrong with a text that names the meta-schema of no draft.
     fn of_dialect(&self, alloc: Global, text: &str) -> Result<Option<Problem<'v>>, AllocError>
         ensures { IfOk result
-            (IsMaybe (by_dialect (known_in self.now) (meanings.meta_schema_uri text.now))) }
+            (IsMaybe (by_dialect (known_in self.now) (meta_schema_uri text.now))) }
     {
-        match meta_schema_uri(alloc, text)? {
+        match meta_schema_of(alloc, text) {
             Ok(uri) => Ok(self.of_dialect_uri(uri)),
-            Err(error) => Ok(Some(Problem::InvalidUri(error))),
+            Err(fault) => refused(fault),
         }
     }
 
@@ -394,9 +406,9 @@ impl<'k, 'v> Known<'k, 'v> {
             (IsMaybe
             (by_base (known_in self.now) number (uri_against outer.now.value id.now))) }
     {
-        match resolved(alloc, outer, id)? {
+        match resolved(alloc, outer, id) {
             Ok(uri) => self.of_uri(alloc, number, &uri),
-            Err(error) => Ok(Some(Problem::InvalidUri(error))),
+            Err(fault) => refused(fault),
         }
     }
 

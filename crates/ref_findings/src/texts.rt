@@ -7,8 +7,8 @@ ghost use Rattle.ref_draft.specs.Schema.{text_under as text_in, identifier};
 ghost use Rattle.ref_draft.specs.Anchors.{anchors as anchors_of};
 ghost use Rattle.ref_findings.specs.inner.Plain.{AreAmong, HasNoDynamic};
 
-use crate::finding::text_under;
 use ref_draft::{AnchorIter, Draft, ResourceRef};
+use ref_index::meanings::text_under;
 use serde_json::Value;
 
 /// Which texts a place may have that findings are about: what it lacks is not looked for again.

@@ -10,3 +10,4 @@ pub mod Opening
 pub mod Retrieving
 pub mod Listing
 pub mod NormalUris
+pub mod Referring

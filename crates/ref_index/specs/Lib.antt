@@ -3,6 +3,7 @@ pub mod Document
 pub mod Spots
 pub mod Entries
 pub mod Faults
+pub mod Meanings
 pub mod Below
 pub mod Visit
 pub mod Listed

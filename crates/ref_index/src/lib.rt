@@ -9,6 +9,7 @@ mod entry;
 mod found;
 mod index;
 mod listed;
+pub mod meanings;
 mod open;
 mod path;
 mod places;

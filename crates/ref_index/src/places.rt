@@ -11,13 +11,13 @@ ghost use Rattle.ref_index.specs.declared.queue.Visit.{Visit};
 
 use crate::document::Document;
 use crate::index::Index;
+use crate::meanings::resolved;
 use crate::path::Below;
 use crate::queue::{ValueRef, Visit};
 use crate::reference::shared;
 use crate::walk::{push_children, push_visit};
 use ref_draft::{Draft, ResourceRef};
 use ref_parts::path::JsonPointerSegment;
-use ref_uri::uri::resolve_against;
 use ref_uri::{Uri, UriFault};
 use serde_json::Value;
 use std::alloc::{AllocError, Global};
@@ -58,8 +58,8 @@ fn base_in(
     if let Some(found) = index.resolved(outer.as_str(), id) {
         return found.uri.clone();
     }
-    match resolve_against(alloc, outer.borrow(), id) {
-        Ok(uri) => shared(alloc, uri),
+    match resolved(alloc, outer, id) {
+        Ok(uri) => Ok(uri),
         Err(UriFault::Memory(error)) => Err(error),
         Err(UriFault::Invalid(error)) => unreachable!("{error}"),
     }

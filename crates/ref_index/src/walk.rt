@@ -17,37 +17,23 @@ ghost use Rattle.ref_index.specs.Entries.{IsEntryOf};
 ghost use Rattle.ref_index.specs.Visit.{path_of, place_of, place_with, value_of};
 ghost use Rattle.ref_index.specs.declared.queue.Visit.{Visit};
 ghost use Rattle.ref_index.specs.Document.{document_of};
-ghost use Rattle.ref_index.specs.inner.Visits.{meta_schema_uri, AddsPlace, GivesUri, RefusesFor, IsThereIn, Came, ChildrenCame, IsVisited, WalksOver, under_document, names_under, with_meanings};
+ghost use Rattle.ref_index.specs.Meanings.{GivesUri};
+ghost use Rattle.ref_index.specs.inner.Visits.{AddsPlace, RefusesFor, IsThereIn, Came, ChildrenCame, IsVisited, WalksOver, under_document, names_under, with_meanings};
 ghost use Rattle.ref_index.specs.Faults.{IsFirstFault, faults_of};
 
 use crate::document::Document;
 use crate::entry::Entry;
 use crate::found::{Cause, Found};
+use crate::meanings::{base_of, dialect_in, meta_schema_of, resolved, text_under, uri_text};
 use crate::path::Below;
 use crate::queue::{ValueRef, Visit};
 use crate::reference::shared;
 use ref_draft::{AnchorIter, Child, Draft, ResourceRef};
 use ref_parts::path::JsonPointerNode;
-use ref_uri::parts::uri_part;
-use ref_uri::uri::{from_str, resolve_against};
 use ref_uri::{Uri, UriFault};
 use serde_json::Value;
 use std::alloc::{AllocError, Global};
 use std::rc::Rc;
-
-// The base of a place: its identifier against the base around it, or that base.
-fn base_of(alloc: Global, outer: &Rc<Uri>, id: Option<&str>) -> Result<Rc<Uri>, UriFault>
-    ensures { GivesUri (base_within outer.now.value (option_map (λ text. text.now) id.entry))
-        result }
-{
-    match id {
-        Some(id) => {
-            let base = resolve_against(alloc, outer.borrow(), id)?;
-            Ok(shared(alloc, base)?)
-        }
-        None => Ok(outer.clone()?),
-    }
-}
 
 // The entry of a place whose base is known. Takes memory for its path.
 fn entry_of<'w, 'a: 'w>(
@@ -217,12 +203,10 @@ fn referred(
         (Holds layer found.new
         (with_references held (pairs_of_reference base.now.value reference.now))) }
 {
-    if reference.starts_with('#') {
+    let Some(text) = uri_text(reference) else {
         return Ok(base.clone()?);
-    }
-    let text = uri_part(reference);
-    let target = resolve_against(alloc, base.borrow(), text)?;
-    let uri = shared(alloc, target)?;
+    };
+    let uri = resolved(alloc, base, text)?;
     found.add_reference(base.as_str(), text, &uri)?;
     Ok(uri)
 }
@@ -244,21 +228,12 @@ fn add_reference(
     ensures faults { RefusesFor (refusals_of (reference_at base.now.value (view value.now)))
         result }
 {
-    let Some(reference) = value.get("$ref").and_then(Value::as_str) else {
+    let Some(reference) = text_under(value, "$ref") else {
         return Ok(());
     };
     let uri = referred(alloc, found, base, reference)?;
     found.add_want(Cause::Reference, uri)?;
     Ok(())
-}
-
-// The URI that a text names a meta-schema by, without its fragment.
-fn schema_uri(alloc: Global, text: &str) -> Result<Rc<Uri>, UriFault>
-    ensures { GivesUri (meta_schema_uri text.now) result }
-{
-    let mut uri = from_str(alloc, text)?;
-    uri.drop_fragment();
-    Ok(shared(alloc, uri)?)
 }
 
 // Adds what a text under `$schema` names, where that is no known draft.
@@ -270,13 +245,10 @@ fn add_meta_schema(alloc: Global, found: &mut Found<'_>, value: &Value) -> Resul
         (with_wants held (wants_of_text MetaSchema (schema_at (view value.now))))) }
     ensures faults { RefusesFor (refusals_of (schema_at (view value.now))) result }
 {
-    let Some(text) = value.get("$schema").and_then(Value::as_str) else {
+    let Some(text) = dialect_in(value) else {
         return Ok(());
     };
-    if Draft::from_schema_uri(text) != Draft::Unknown {
-        return Ok(());
-    }
-    let uri = schema_uri(alloc, text)?;
+    let uri = meta_schema_of(alloc, text)?;
     found.add_want(Cause::MetaSchema, uri)?;
     Ok(())
 }

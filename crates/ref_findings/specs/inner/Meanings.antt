@@ -1,5 +1,5 @@
 -- What texts are settled to mean.
-use Rattle.std.specs.Prelude.{◌≡◌, ℕ, Bool, true, false, List, map, Option, Some, None, Result, Ok, Err}
+use Rattle.std.specs.Prelude.{◌≡◌, Bool, true, false, map, Option, Some, None, Result, Ok, Err}
 use Rattle.ref_paths.specs.Segment.{part_of}
 use Rattle.ref_error.specs.declared.error.Error.{Error}
 use Rattle.ref_error.specs.declared.error.Error.TheVariants as error
@@ -8,27 +8,9 @@ use Rattle.ref_definitions.specs.Fault.{Fault}
 use Rattle.ref_definitions.specs.Lookup.{Found}
 use Rattle.ref_findings.specs.Bearers.{Site}
 use Rattle.ref_findings.specs.declared.finding.Bearer.{Bearer}
-use Rattle.ref_uri.specs.Reference.{with_fragment}
-use Rattle.ref_uri.specs.Targets.{Refusal, uri_of}
-use Rattle.ref_uri.specs.Errors.{SaysRefusal}
-use Rattle.ref_uri.specs.declared.error.UriError.{UriError}
-use Rattle.ref_uri.specs.declared.uri.Uri.{Uri}
-use Rattle.std.specs.declared.rc.Rc.{Rc}
-use Rattle.std.specs.declared.alloc.Global.{Global}
-use Rattle.ref_definitions.specs.Results.{◌>>=◌}
 use Rattle.ref_findings.specs.declared.finding.Problem as rust_problem
 use Rattle.ref_findings.specs.Findings.{Problem}
 use Rattle.ref_findings.specs.Entries.{IsProblemOf}
-
--- the URI that a text names a meta-schema by: its fragment takes no part
-abbrev pub meta_schema_uri : List ℕ → Result (List ℕ) Refusal
-meta_schema_uri text = uri_of text >>= λ uri. Ok (with_fragment uri None)
-
--- what is settled is the meaning
-abbrev pub IsMeaning : Result (List ℕ) Refusal → Result (Rc Uri Global) UriError → Type 0
-IsMeaning meaning (Ok uri) = meaning ≡ Ok uri.value
-IsMeaning meaning (Err error) =
-    (refusal : Refusal) × (meaning ≡ Err refusal) × SaysRefusal error refusal
 
 -- the program says what is wrong, or nothing is
 abbrev pub IsMaybe : Option Problem → Option rust_problem.Problem → Type 0

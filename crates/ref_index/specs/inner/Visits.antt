@@ -2,13 +2,8 @@
 use Rattle.std.specs.Prelude.{◌≡◌, ℕ, List, [], ◌∷◌, ◌++◌, ◌≤◌, map, flat_map, take, drop, length, slice_get, Option, Some, None, Result, Ok, Err}
 use Rattle.serde_json.specs.Data.{Data}
 use Rattle.std.specs.List.{AllByRecursion, Contains}
-use Rattle.std.specs.declared.alloc.Global.{Global}
-use Rattle.std.specs.declared.rc.Rc.{Rc}
 use Rattle.ref_paths.specs.Path.{Part, value_at}
-use Rattle.ref_uri.specs.Reference.{with_fragment}
-use Rattle.ref_uri.specs.Targets.{Refusal, uri_of}
-use Rattle.ref_definitions.specs.Results.{◌>>=◌}
-use Rattle.ref_uri.specs.Errors.{IsFaultOf}
+use Rattle.ref_uri.specs.Targets.{Refusal}
 use Rattle.ref_uri.specs.declared.error.UriFault.{UriFault}
 use Rattle.ref_definitions.specs.World.{Document, Layer}
 use Rattle.ref_definitions.specs.Places.{Place, root, child_place, children_of, places}
@@ -27,15 +22,6 @@ use Rattle.ref_index.specs.inner.Found.{FoundLists, Holds, with_resources, with_
 use Rattle.ref_index.specs.Visit.{place_of, value_of}
 use Rattle.ref_index.specs.Faults.{IsFirstFault, faults_of}
 use Rattle.ref_index.specs.Listed.{wants_of, ChildrenAreAt}
-
--- the URI that a text names a meta-schema by: its fragment takes no part
-abbrev pub meta_schema_uri : List ℕ → Result (List ℕ) Refusal
-meta_schema_uri text = uri_of text >>= λ uri. Ok (with_fragment uri None)
-
--- the result is the URI that is meant, or says the fault that is meant, or is out of memory
-abbrev pub GivesUri : Result (List ℕ) Refusal → Result (Rc (List ℕ) Global) UriFault → Type 0
-GivesUri meaning (Ok uri) = meaning ≡ Ok uri.value
-GivesUri meaning (Err fault) = IsFaultOf meaning fault
 
 -- there is none of these faults, or the result says the first, or is out of memory
 abbrev pub RefusesFor : {A : Type 0} → List Refusal → Result A UriFault → Type 0

@@ -19,7 +19,7 @@ returns-in_err-base-clause-faults c =
     let p = place_of c.args.place.now in
     let outer = c.args.place.now.outer.value in
     let same = c.id-id.ensures.value ∙ ap id_of c.new.ensures.value ∙ ap (identifier p.draft) c.get-value.ensures.value in
-    let fault = first_of_base p.base p.value c.in_err-base.field-0.0 (subst (λ id. IsFaultOf (base_within outer id) c.in_err-base.field-0.0) same c.in_err-base.ensures) in
+    let fault = first_of_base p.base p.value c.in_err-base.field-0.0 (subst (λ id. IsFaultOf (base_within outer id) c.in_err-base.field-0.0) same c.in_err-base.ensures.value) in
     search rules
 
 pub returns-in_err-add_reference-clause-faults : goal.returns-in_err-add_reference-clause-faults
@@ -41,7 +41,7 @@ returns-clause-added c = λ layer held holds is_at_path.
     let outer = c.args.place.now.outer.value in
     let same = c.id-id.ensures.value ∙ ap id_of c.new.ensures.value ∙ ap (identifier p.draft) c.get-value.ensures.value in
     let identified = with_identifiers held (identifier_pairs_at p) in
-    let kept = subst (λ id. Holds layer c.add_base.new.found (with_identifiers held (pairs_of_identifier outer id))) same (c.in_ok-add_base.ensures layer held holds c.in_ok-base.ensures) in
+    let kept = subst (λ id. Holds layer c.add_base.new.found (with_identifiers held (pairs_of_identifier outer id))) same (c.in_ok-add_base.ensures layer held holds c.in_ok-base.ensures.value) in
     let meant = with_meanings c.args.number under p identified in
     let placed = c.in_ok-add_place.ensures layer identified kept is_at_path same based in
     let referring = λ (d : Data). with_wants (with_references meant (pairs_of_value base d)) (wants_of_text Reference (reference_at base d)) in
