@@ -1,5 +1,6 @@
 -- What a dynamic anchor leads to, by the dynamic scope of a resolver.
-use Rattle.std.proofs.Common.{◌≡◌, ℕ, List, Ok, sym, ap, subst, ◌∙◌}
+use Rattle.std.proofs.Common.{◌≡◌, ℕ, List, Some, Ok, sym, ap, subst, ◌∙◌}
+use Rattle.std.specs.Result.{result_ok}
 use Rattle.serde_json.specs.View.{view}
 use Rattle.ref_draft.specs.Anchors.{Dynamic}
 use Rattle.ref_definitions.specs.Anchors.{Named, anchor}
@@ -13,6 +14,7 @@ use Rattle.ref_resolver.specs.inner.Scoped.{IsOutermost}
 use Rattle.ref_resolver.specs.Resolving.{resolver_of, world_of}
 use Rattle.ref_resolver.specs.inner.Leading.{under_uri}
 use Rattle.ref_resolver.proofs.Fragments.{dynamic_scope}
+use Rattle.ref_resolver.proofs.Naming.{only_one}
 use Rattle.ref_resolver.proofs.Scoping.{found_under}
 
 -- an entry is a dynamic anchor of a name
@@ -34,9 +36,18 @@ pub scope_leads : (self : Resolver) (name : List ℕ) (n : Named) (outer : List 
 scope_leads self name n outer l of (m, leads, is_at_path, named, last) = asked self name n of ∙ leads ∙ found_under (resolver_of self) outer m l is_at_path
 
 -- under the URI of that place the name means the anchor there
-pub scope_means : (self : Resolver) (name : List ℕ) (n : Named) (outer : List ℕ) (l : Located) (text : List ℕ) → anchor (world_of self) (resolver_of self).base name ≡ Ok n → text ≡ outer → IsOutermost (world_of self) (resolver_of self) n name outer l
-    → (m : Named) × IsLocated l m.place × (anchor (world_of self) text name ≡ Ok m)
-scope_means self name n outer l text means is (m, leads, is_at_path, named, last) = (m, is_at_path, ap (λ u. anchor (world_of self) u name) is ∙ named means)
+pub scope_means : {l : Located} (self : Resolver) (name : List ℕ) (n : Named) (outer text : List ℕ) → anchor (world_of self) (resolver_of self).base name ≡ Ok n → text ≡ outer → IsOutermost (world_of self) (resolver_of self) n name outer l
+    → (m : Named) × (anchor (world_of self) text name ≡ Ok m)
+scope_means self name n outer text means is (m, leads, is_at_path, named, last) = (m, ap (λ u. anchor (world_of self) u name) is ∙ named means)
+
+-- and leads to any place of that anchor
+pub scope_leads_there : {first : Located} (self : Resolver) (name : List ℕ) (n k : Named) (outer text : List ℕ) (l : Located) → IsDynamicOf name n → anchor (world_of self) (resolver_of self).base name ≡ Ok n → text ≡ outer
+    → IsOutermost (world_of self) (resolver_of self) n name outer first → result_ok (anchor (world_of self) text name) ≡ Some k → IsLocated l k.place
+    → named_found (world_of self) (resolver_of self) n n.kind ≡ under_uri (resolver_of self) outer l.entry.now.draft (view l.value.now)
+scope_leads_there self name n k outer text l of means is (m, leads, is_at_path, named, last) found there =
+    let here : anchor (world_of self) text name ≡ Ok m = ap (λ u. anchor (world_of self) u name) is ∙ named means in
+    let one : k ≡ m = only_one (anchor (world_of self) text name) k m found here in
+    scope_leads self name n outer l of (m, leads, subst (λ (x : Named). IsLocated l x.place) one there, named, last)
 
 -- what a name leads to from a resolver that moved to a URI
 pub named_moved : (self there : Resolver) (uri : List ℕ) (n : Named) → world_of there ≡ world_of self → resolver_of there ≡ moved_resolver (resolver_of self) uri

@@ -22,7 +22,7 @@ use Rattle.ref_definitions.specs.Fault.{Fault, InvalidPercentEncoding, as_invali
 use Rattle.ref_uri.specs.Targets.{Refusal}
 use Rattle.ref_definitions.specs.Bases.{Along, along_part}
 use Rattle.ref_definitions.specs.Bases as bases
-use Rattle.ref_definitions.specs.Pointers.{step_into, walked_along, pointed_value}
+use Rattle.ref_definitions.specs.Pointers.{step_into, walked_along}
 use Rattle.ref_error.specs.declared.error.Error.{Error}
 use Rattle.ref_error.specs.Errors.{IsFaultOf, Gives}
 use Rattle.ref_resolver.specs.inner.Walking.{Passed, accepted_id, stepped_into, changed_base, base_after, stepped_along, passed_along, leads_to, pointed_to}
@@ -164,15 +164,6 @@ gives_leads draft pointer base value ts passed at (Ok done) start gives =
 gives_leads draft pointer base value ts passed at (Err e) start says =
     fault_leads draft pointer base value ts e (subst (λ p. IsFaultOf (passed_along draft pointer p value ts) e) start says)
 
-answered : (answer : Result (Data × Along) Fault) (value : Data) (base : List ℕ) → with_parts answer ≡ Ok (value, base) → (at : Data × Along) × (answer ≡ Ok at) × (at.0 ≡ value)
-answered (Ok at) value base is = (at, refl, (let same : (at.0, at.1.base) ≡ (value, base) = cc in ap (λ (p : Data × List ℕ). p.0) same))
-answered (Err fault) value base is = absurd (cc)
-
-pub answer_same : (draft : Draft) (pointer base : List ℕ) (value : Data) (tokens : List (List ℕ)) (at : Data × Passed)
-    → passed_along draft pointer (record { base = base; reached = Schema }) value tokens ≡ Ok at → (to : Data × Along) × (walked_along draft pointer (record { base = base; since = [] }) value tokens ≡ Ok to) × (to.0 ≡ at.0)
-answer_same draft pointer base value tokens at is =
-    answered (walked_along draft pointer (record { base = base; since = [] }) value tokens) at.0 at.1.base (leads_same draft pointer base value tokens ∙ ap without_parts is)
-
 -- ---- the decoded text
 
 pub text_leads : (draft : Draft) (pointer base text decoded : List ℕ) (d : Data) → decoded ≡ percent_decode text → IsUtf8 (percent_decode text) → leads_to draft pointer base d (tokens decoded) ≡ pointed_to draft pointer base d text
@@ -187,13 +178,3 @@ bytes_by false pointer text r e h = refl
 pub bytes_lead_nowhere : (draft : Draft) (pointer base text : List ℕ) (d : Data) → (IsUtf8 (percent_decode text) → ⊥) → pointed_to draft pointer base d text ≡ Err (InvalidPercentEncoding pointer)
 bytes_lead_nowhere draft pointer base text d h =
     ap (λ a. a >>= λ at. Ok (at.0, at.1.base)) (bytes_by (is_utf8 (percent_decode text)) pointer text (walked_along draft pointer (record { base = base; since = [] }) d (tokens (percent_decode text))) refl h)
-
--- ---- the same, with the parts that the walk passed
-
-pub text_pointed : (draft : Draft) (pointer base text decoded : List ℕ) (d : Data) → decoded ≡ percent_decode text → IsUtf8 (percent_decode text) → walked_along draft pointer (record { base = base; since = [] }) d (tokens decoded) ≡ pointed_value draft pointer base d text
-text_pointed draft pointer base text decoded d is utf8 =
-    ap (λ s. walked_along draft pointer (record { base = base; since = [] }) d (tokens s)) is
-    ∙ sym (ap (λ b. cond b (walked_along draft pointer (record { base = base; since = [] }) d (tokens (percent_decode text))) (Err (InvalidPercentEncoding pointer))) (is_utf8-from_IsUtf8 (percent_decode text) utf8))
-
-pub bytes_pointed : (draft : Draft) (pointer base text : List ℕ) (d : Data) → (IsUtf8 (percent_decode text) → ⊥) → pointed_value draft pointer base d text ≡ Err (InvalidPercentEncoding pointer)
-bytes_pointed draft pointer base text d h = bytes_by (is_utf8 (percent_decode text)) pointer text (walked_along draft pointer (record { base = base; since = [] }) d (tokens (percent_decode text))) refl h

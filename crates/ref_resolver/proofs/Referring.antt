@@ -15,10 +15,8 @@ use Rattle.ref_error.specs.declared.error.Error.{Error}
 use Rattle.ref_error.specs.Errors.{IsFaultOf, Gives, SaysOrMemory}
 use Rattle.ref_error.proofs.Saying.{fault_as, says_of, uri_meant}
 use Rattle.ref_resolver.specs.declared.located.Located.{Located}
-use Rattle.ref_resolver.specs.declared.location.Location.{Location}
 use Rattle.ref_resolver.specs.inner.Located.{IsLocated}
 use Rattle.ref_resolver.specs.inner.Names.{is_name}
-use Rattle.ref_resolver.specs.Locations.{GivesWhere}
 use Rattle.ref_resolver.specs.inner.Leading.{at_pointer}
 use Rattle.ref_resolver.specs.inner.Walking.{pointed_to}
 use Rattle.ref_resolver.proofs.Pointing.{no_answer}
@@ -47,10 +45,6 @@ whole_leads w r reference uri fragment p l refers at name none = leads w r refer
 -- a URI that is refused, for a lookup
 pub refused_gives : {X : Type 0} (view : X → Found) (w : World) (r : Resolver) (reference : List ℕ) (e : Error) (answer : Result X Error) → IsFaultOf (as_invalid_uri (target r.base reference)) e → answer ≡ Err e → Gives view (lookup w r reference) answer
 refused_gives view w r reference e answer refused is = subst (Gives view (lookup w r reference)) (sym is) (lookup_refused w r reference e refused)
-
--- the same for a location
-pub refused_where : (w : World) (r : Resolver) (reference : List ℕ) (e : Error) (answer : Result Location Error) → IsFaultOf (as_invalid_uri (target r.base reference)) e → answer ≡ Err e → GivesWhere w (lookup w r reference) answer
-refused_where w r reference e answer refused is = subst (GivesWhere w (lookup w r reference)) (sym is) (lookup_refused w r reference e refused)
 
 -- a URI that means no place
 pub absent_says : (w : World) (r : Resolver) (reference uri : List ℕ) (e : Error) → as_invalid_uri (target r.base reference) ≡ Ok uri → meant_place w uri ≡ None → SaysOrMemory (not_retrieved uri) e → IsFaultOf (lookup w r reference) e

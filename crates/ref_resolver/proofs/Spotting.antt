@@ -1,5 +1,5 @@
 -- Where places are, layer by layer, and what a reference points at there.
-use Rattle.std.proofs.Common.{◌≡◌, ℕ, suc, ◌+◌, ◌<◌, arith, Bool, true, false, eqb, List, [], ◌∷◌, ◌++◌, length, get_or, drop, map, flat_map, Option, Some, None, option_map, IfSome, Bor, Ok, refl, sym, ap, ◌∙◌, append_assoc}
+use Rattle.std.proofs.Common.{◌≡◌, ℕ, suc, ◌+◌, ◌<◌, arith, Bool, true, false, eqb, List, [], ◌∷◌, length, get_or, drop, map, flat_map, Option, Some, None, option_map, IfSome, Bor, Ok, refl, sym, ap, ◌∙◌}
 use Rattle.std.specs.Prelude.{not, option_and_then}
 use Rattle.std.specs.Option.{option_or, option_map_or}
 use Rattle.std.specs.Result.{result_ok}
@@ -8,26 +8,19 @@ use Rattle.serde_json.specs.Data.{Data}
 use Rattle.ref_paths.specs.Path.{Part}
 use Rattle.ref_parts.specs.Pointer.{tokens}
 use Rattle.ref_draft.specs.Anchors.{Plain, Dynamic}
-use Rattle.ref_draft.specs.declared.draft.Draft.{Draft}
-use Rattle.ref_draft.specs.declared.reached.Reached.{Reached}
-use Rattle.ref_draft.specs.Reached.{reached_after}
 use Rattle.ref_uri.specs.Targets.{target, fragment_part}
-use Rattle.ref_definitions.specs.Results.{◌>>=◌}
 use Rattle.ref_definitions.specs.World.{Layer, World}
 use Rattle.ref_definitions.specs.Places.{Place}
 use Rattle.ref_definitions.specs.Resources.{resources, last_under, own_uri, meant_place}
 use Rattle.ref_definitions.specs.Anchors.{Named, names, last_named, named_entry, anchor}
-use Rattle.ref_definitions.specs.Fault.{as_invalid_uri}
 use Rattle.ref_definitions.specs.Pointers.{step_into}
 use Rattle.ref_definitions.specs.Lookup.{Resolver, moved_resolver, in_scope, entry_of, outermost}
-use Rattle.ref_definitions.proofs.Changes.{first_answers}
 use Rattle.ref_index.specs.declared.entry.Entry.{Entry}
 use Rattle.ref_index.specs.Spots.{Spot, last_resource, last_name, spot_under, spot_named, spot_of}
 use Rattle.ref_index.proofs.Spots.{last_resource_is, last_name_is}
 use Rattle.ref_resolver.specs.declared.located.Located.{Located}
 use Rattle.ref_resolver.specs.Locations.{uri_spot_from, uri_spot, name_spot_from, name_spot, anchor_spot, naming_uri, parts_along, with_parts, pointer_spot, fragment_spot, lookup_location}
 use Rattle.ref_resolver.specs.inner.Names.{is_name}
-use Rattle.ref_resolver.specs.inner.Walking.{Passed, stepped_into, base_after, stepped_along}
 use Rattle.ref_resolver.proofs.Fragments.{no_name}
 use Rattle.ref_resolver.proofs.Locating.{parents_step}
 
@@ -165,19 +158,5 @@ naming_scope w r n name called is = ap (naming_uri w r n) is ∙ ap (λ text. (o
 
 -- ---- the parts of a pointer
 
-part_first : (pointer : List ℕ) (value : Data) (token : List ℕ) (more : List (List ℕ)) (s : Part × Data) → step_into pointer value token ≡ Ok s → parts_along pointer value (token ∷ more) ≡ s.0 ∷ parts_along pointer s.1 more
+pub part_first : (pointer : List ℕ) (value : Data) (token : List ℕ) (more : List (List ℕ)) (s : Part × Data) → step_into pointer value token ≡ Ok s → parts_along pointer value (token ∷ more) ≡ s.0 ∷ parts_along pointer s.1 more
 part_first pointer value token more s is = ap (λ a. option_map_or (λ (t : Part × Data). t.0 ∷ parts_along pointer t.1 more) (result_ok a) []) is
-
--- one part goes from what is to come to the path
-pub one_part_on : (draft : Draft) (pointer : List ℕ) (passed : Passed) (value : Data) (token : List ℕ) (more : List (List ℕ)) (before after : List Part) (at : Data × Passed)
-    → ((s : Part × Data) → step_into pointer value token ≡ Ok s → after ≡ before ++ s.0 ∷ []) → stepped_along draft pointer passed value token ≡ Ok at
-    → after ++ parts_along pointer at.0 more ≡ before ++ parts_along pointer value (token ∷ more)
-one_part_on draft pointer passed value token more before after at pushed is =
-    let to = first_answers (stepped_into draft pointer passed.reached value token) (λ s. as_invalid_uri (base_after draft passed.base s) >>= λ next. Ok (s.1, next)) at is in
-    let base = first_answers (as_invalid_uri (base_after draft passed.base to.0)) (λ next. Ok (to.0.1, next)) at to.2 in
-    let same : (to.0.1, base.0) ≡ at = cc in
-    let step = first_answers (step_into pointer value token) (λ s. Ok (reached_after draft passed.reached s.0, s.1)) to.0 to.1 in
-    let there : (reached_after draft passed.reached step.0.0, step.0.1) ≡ to.0 = cc in
-    let value_is : step.0.1 ≡ at.0 = ap (λ (t : Reached × Data). t.1) there ∙ ap (λ (t : Data × Passed). t.0) same in
-    ap (λ l. l ++ parts_along pointer at.0 more) (pushed step.0 step.1) ∙ append_assoc before (step.0.0 ∷ []) (parts_along pointer at.0 more)
-    ∙ ap (λ v. before ++ step.0.0 ∷ parts_along pointer v more) (sym value_is) ∙ ap (λ l. before ++ l) (sym (part_first pointer value token more step.0 step.1))

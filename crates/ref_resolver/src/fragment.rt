@@ -117,29 +117,6 @@ fn handle(alloc: Global, uri: &Uri, other: &Rc<Uri>) -> Result<Rc<Uri>, AllocErr
     shared(alloc, uri.clone()?)
 }
 
-// The base of a place that an anchor names under a URI: the place's identifier is resolved against that URI.
-pub(crate) fn base_under<'r>(
-    alloc: Global,
-    layers: &Layers<'r>,
-    uri: &Uri,
-    place: Located<'r>,
-) -> Result<Rc<Uri>, Error>
-    ensures { (r : Start)
-        → Gives
-        (λ base. record {
-          value = view place.entry.value.now;
-          draft = place.entry.entry.now.draft;
-          resolver = record r { base = base.value };
-        })
-        (under_uri r uri.now place.entry.entry.now.draft (view place.entry.value.now)) result }
-{
-    let base = match ResourceRef::new(place.value, place.entry.draft).id() {
-        Some(id) => layers.resolve_uri(alloc, uri.borrow(), id)?,
-        None => handle(alloc, uri, &place.entry.base)?,
-    };
-    Ok(base)
-}
-
 // A place that an anchor names under a URI, with the base there.
 pub(crate) fn under_uri<'r>(
     alloc: Global,

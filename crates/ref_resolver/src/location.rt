@@ -1,38 +1,32 @@
 //! Where the value is that a reference leads to, so that a user who keeps the documents finds it there.
-ghost use Rattle.std.specs.Prelude.{◌≡◌, ℕ, List, [], ◌∷◌, ◌++◌, true, map, string_bytes, MatchOption, IfSome, None, Some, Ok, Err, IfOk, IfErr, OnOk};
+ghost use Rattle.std.specs.Prelude.{◌≡◌, ℕ, List, ◌++◌, true, map, string_bytes, IsUtf8, MatchOption, IfSome, Some, Ok, Err, IfOk, OnOk};
 ghost use Rattle.std.specs.Result.{result_ok};
 ghost use Rattle.percent_encoding.specs.Percent.{percent_decode};
 ghost use Rattle.serde_json.specs.View.{view};
-ghost use Rattle.serde_json.specs.Data.{Data};
-ghost use Rattle.ref_paths.specs.Path.{Part, Key, value_at};
-ghost use Rattle.ref_parts.specs.Pointer.{pointer_text, tokens, unescape};
+ghost use Rattle.ref_parts.specs.Pointer.{pointer_text, tokens};
 ghost use Rattle.ref_paths.specs.Segment.{part_of};
 ghost use Rattle.ref_uri.specs.Targets.{target, fragment_part};
 ghost use Rattle.ref_definitions.specs.World.{World};
 ghost use Rattle.ref_definitions.specs.Places.{Place};
-ghost use Rattle.ref_definitions.specs.Pointers.{step_into, pointed_value};
 ghost use Rattle.ref_definitions.specs.Anchors.{Named, anchor, not_named};
 ghost use Rattle.ref_draft.specs.Anchors.{Dynamic};
-ghost use Rattle.ref_draft.specs.declared.reached.Reached.TheVariants.{Schema};
-ghost use Rattle.ref_definitions.specs.Lookup.{Resolver as Start, lookup, moved_resolver, named_found};
+ghost use Rattle.ref_definitions.specs.Lookup.{lookup, moved_resolver, named_found};
 ghost use Rattle.ref_definitions.specs.Recursive.{lookup_recursive};
-ghost use Rattle.ref_error.specs.Errors.{IsFaultOf, Gives};
+ghost use Rattle.ref_error.specs.Errors.{Gives};
 ghost use Rattle.ref_index.specs.Spots.{spot_of};
 ghost use Rattle.ref_resolver.specs.Layered.{world_in};
 ghost use Rattle.ref_resolver.specs.inner.Located.{IsLocated, IsLocatedAt, IsNamedAt};
-ghost use Rattle.ref_resolver.specs.Locations.{IsValueAt, IsWhere, GivesWhere, anchor_spot, naming_uri, parts_along, with_parts, lookup_location, recursive_reference, location_view};
-ghost use Rattle.ref_resolver.specs.inner.Leading.{LeadsOn, at_pointer};
+ghost use Rattle.ref_resolver.specs.Locations.{IsValueAt, GivesWhere, anchor_spot, naming_uri, parts_along, with_parts, lookup_location, recursive_reference, location_view};
+ghost use Rattle.ref_resolver.specs.inner.Leading.{IsPartOn, at_pointer};
 ghost use Rattle.ref_resolver.specs.inner.Names.{is_name};
-ghost use Rattle.ref_resolver.specs.Resolving.{resolver_of, world_of};
-ghost use Rattle.ref_resolver.specs.inner.Walking.{passed_along, Steps};
+ghost use Rattle.ref_resolver.specs.Resolving.{resolver_of, world_of, found_of, world_found};
 
-use crate::fragment::{base_under, identified_base, is_name, not_named, not_retrieved, outermost};
+use crate::fragment::{identified_base, is_name, not_named, not_retrieved, outermost, under_uri};
 use crate::layers::Layers;
 use crate::located::{Located, Numbered, NumberedName};
-use crate::pointed::{Along, Walk, cut_at_slash, index_of, no_utf8, step};
-use crate::resolver::{Resolver, Target};
+use crate::pointed::{cut_at_slash, index_of};
+use crate::resolver::{Resolved, Resolver, Target};
 use percent_encoding::{DecodeError, percent_decode};
-use ref_draft::Reached;
 use ref_error::Error;
 use ref_parts::escape::unescape_segment;
 use ref_parts::path::JsonPointerSegment;
@@ -111,178 +105,88 @@ fn numbered_meaning<'r>(layers: &Layers<'r>, uri: &str, name: &str) -> Option<Nu
     }
 }
 
-// The key that a token is, copied.
-fn key_of<'p>(alloc: Global, token: &str) -> Result<JsonPointerSegment<'p>, AllocError>
-    ensures { IfOk result (λ segment. part_of segment ≡ Key (unescape token.now)) }
-{
-    let key = unescape_segment(alloc, token)?.into_owned(alloc)?;
-    Ok(JsonPointerSegment::Key(CowStr::Owned(key)))
-}
-
-// The part of a path that a token is, where it leads to a value.
-fn segment_of<'p>(
+// Adds the part that a token is from a value on after a path, where it leads to a value, and goes there.
+fn push_part<'v>(
     alloc: Global,
-    value: &Value,
+    path: &mut Vec<JsonPointerSegment<'_>>,
+    value: &'v Value,
     token: &str,
-) -> Result<JsonPointerSegment<'p>, AllocError>
-    ensures { (pointer : List ℕ) (s : Part × Data)
-        → step_into pointer (view value.now) token.now ≡ Ok s
-        → IfOk result (λ segment. part_of segment ≡ s.0) }
+) -> Result<Option<&'v Value>, AllocError>
+    ensures { (pointer : List ℕ) (more : List (List ℕ))
+        → IfOk result
+        (IsPartOn pointer (view value.now) token.now more (map part_of path.old.items)
+        (map part_of path.new.items)) }
 {
-    if !value.is_array() {
-        return key_of(alloc, token);
+    if value.is_array() {
+        let Some(index) = index_of(token) else {
+            return Ok(None);
+        };
+        let Some(next) = value.get(index) else {
+            return Ok(None);
+        };
+        path.push(JsonPointerSegment::Index(index))?;
+        return Ok(Some(next));
     }
-    match index_of(token) {
-        Some(index) => Ok(JsonPointerSegment::Index(index)),
-        None => key_of(alloc, token),
-    }
+    let key = unescape_segment(alloc, token)?;
+    let Some(next) = value.get(key.as_str()) else {
+        return Ok(None);
+    };
+    path.push(JsonPointerSegment::Key(CowStr::Owned(key.into_owned(alloc)?)))?;
+    Ok(Some(next))
 }
 
-// Adds that part after a path.
-fn push_part(
+// Adds the parts that tokens are, as far as they lead to values.
+fn push_parts(
     alloc: Global,
     path: &mut Vec<JsonPointerSegment<'_>>,
     value: &Value,
-    token: &str,
+    text: &str,
 ) -> Result<(), AllocError>
-    ensures { (pointer : List ℕ) (s : Part × Data)
-        → step_into pointer (view value.now) token.now ≡ Ok s
-        → OnOk result (map part_of path.new.items ≡ map part_of path.old.items ++ s.0 ∷ []) }
+    ensures { (pointer : List ℕ)
+        → OnOk result
+        (map part_of path.new.items
+        ≡ map part_of path.old.items ++ parts_along pointer (view value.now) (tokens text.now)) }
 {
-    let segment = segment_of(alloc, value, token)?;
-    path.push(segment)?;
+    let mut value = value;
+    let mut rest = text;
+    while let Some((token, more)) = cut_at_slash(rest) {
+        let Some(next) = push_part(alloc, path, value, token)? else {
+            return Ok(());
+        };
+        value = next;
+        rest = more;
+    }
+    let _ = push_part(alloc, path, value, rest)?;
     Ok(())
 }
 
-// One token further, with its part after the path.
-fn step_on<'v>(
-    alloc: Global,
-    walk: &Walk<'_, '_>,
-    along: &mut Along<'v>,
-    path: &mut Vec<JsonPointerSegment<'_>>,
-    token: &str,
-) -> Result<(), Error>
-    ensures gives { Steps walk.now along.old token.now along.new result }
-    ensures path { (start : Data)
-        → value_at start (map part_of path.old.items) ≡ Some (view along.old.value.now)
-        → OnOk result
-        (value_at start (map part_of path.new.items) ≡ Some (view along.new.value.now)) }
-    ensures parts { (more : List (List ℕ))
-        → OnOk result
-        (map part_of path.new.items
-        ++ parts_along walk.now.pointer.now (view along.new.value.now) more
-        ≡ map part_of path.old.items
-        ++ parts_along walk.now.pointer.now (view along.old.value.now) (token.now ∷ more)) }
-{
-    push_part(alloc, path, along.value, token)?;
-    step(alloc, walk, along, token)
-}
-
-// Token by token, from the value of a resource, with their parts after the path to it.
-fn walk_on(
-    alloc: Global,
-    walk: Walk<'_, '_>,
-    base: Rc<Uri>,
-    value: &Value,
-    path: &mut Vec<JsonPointerSegment<'_>>,
-    text: &str,
-) -> Result<(), Error>
-    ensures ok { LeadsOn path.old.items path.new.items (view value.now)
-        (passed_along walk.entry.draft walk.entry.pointer.now
-        (record { base = base.value; reached = Schema }) (view value.now) (tokens text.now))
-        result }
-    ensures parts { OnOk result
-        (map part_of path.new.items
-        ≡ map part_of path.old.items
-        ++ parts_along walk.entry.pointer.now (view value.now) (tokens text.now)) }
-    ensures fault { IfErr result
-        (IsFaultOf
-        (passed_along walk.entry.draft walk.entry.pointer.now
-        (record { base = base.value; reached = Schema }) (view value.now) (tokens text.now))) }
-{
-    let mut along = Along {
-        value,
-        base,
-        reached: Reached::Schema,
-    };
-    let mut rest = text;
-    while let Some((token, more)) = cut_at_slash(rest) {
-        step_on(alloc, &walk, &mut along, path, token)?;
-        rest = more;
-    }
-    step_on(alloc, &walk, &mut along, path, rest)
-}
-
-// What is after the fragment's first `/`, decoded and then walked, as `follow_pointer` does.
-fn follow_on(
-    alloc: Global,
-    walk: Walk<'_, '_>,
-    base: Rc<Uri>,
-    value: &Value,
-    path: &mut Vec<JsonPointerSegment<'_>>,
-    text: &str,
-) -> Result<(), Error>
-    ensures ok { LeadsOn path.old.items path.new.items (view value.now)
-        (pointed_value walk.entry.draft walk.entry.pointer.now base.value
-        (view value.now) text.now)
-        result }
-    ensures parts { OnOk result
-        (map part_of path.new.items
-        ≡ map part_of path.old.items
-        ++ parts_along walk.entry.pointer.now (view value.now)
-        (tokens (percent_decode text.now))) }
-    ensures fault { IfErr result
-        (IsFaultOf
-        (pointed_value walk.entry.draft walk.entry.pointer.now base.value
-        (view value.now) text.now)) }
-{
-    match percent_decode(text.as_bytes()).decode_utf8(alloc) {
-        Ok(decoded) => walk_on(alloc, walk, base, value, path, decoded.as_str()),
-        Err(DecodeError::OutOfMemory) => Err(Error::Memory(AllocError)),
-        Err(DecodeError::Utf8(_)) => Err(no_utf8(alloc, walk.pointer)),
-    }
-}
-
-// Where a pointer leads in the resource at a place, where `text` is the fragment after its first `/`.
+// Where a pointer leads from a place, where `text` is the fragment after its first `/`.
 fn location_along<'r>(
     alloc: Global,
-    layers: Layers<'r>,
-    base: Rc<Uri>,
     found: Numbered<'r>,
-    pointer: &str,
     text: &str,
-) -> Result<Location<'r>, Error>
-    ensures ok { (r : Start) (p : Place) → r.base ≡ base.value
-        → IsLocatedAt (world_in layers.entry) found.entry p
+) -> Result<Location<'r>, AllocError>
+    ensures { (pointer : List ℕ)
+        → IsUtf8 (percent_decode text.now)
         → IfOk result
-        (IsWhere (world_in layers.entry)
-        (at_pointer r found.entry.place.entry.now.draft pointer.now
-        (view found.entry.place.value.now) text.now)) }
-    ensures spot { IfOk result
         (λ l. location_view l
         ≡ with_parts
-        (parts_along pointer.now (view found.entry.place.value.now)
+        (parts_along pointer (view found.entry.place.value.now)
         (tokens (percent_decode text.now)))
         (found.entry.layer, spot_of found.entry.place.entry.now)) }
-    ensures fault { (r : Start) → r.base ≡ base.value
-        → IfErr result
-        (IsFaultOf
-        (at_pointer r found.entry.place.entry.now.draft pointer.now
-        (view found.entry.place.value.now) text.now)) }
 {
-    let Located { value, entry } = found.place;
-    let mut path = borrowed(alloc, entry.path.as_slice())?;
-    let walk = Walk {
-        layers,
-        draft: entry.draft,
-        pointer,
-    };
-    follow_on(alloc, walk, base, value, &mut path, text)?;
-    Ok(Location {
-        layer: found.layer,
-        document: entry.document,
-        path,
-    })
+    let mut location = location_of(alloc, found)?;
+    match percent_decode(text.as_bytes()).decode_utf8(alloc) {
+        Ok(decoded) => push_parts(
+            alloc,
+            &mut location.path,
+            found.place.value,
+            decoded.as_str(),
+        )?,
+        Err(DecodeError::OutOfMemory) => return Err(AllocError),
+        Err(DecodeError::Utf8(_)) => {}
+    }
+    Ok(location)
 }
 
 impl<'r> Location<'r> {
@@ -297,11 +201,60 @@ impl<'r> Location<'r> {
 }
 
 impl<'r> Resolver<'r> {
-    /// Where the value is that [`Resolver::lookup`] of a reference returns: the layer, counted from 0 for the registry's own
-    /// documents, the number of the document in it, and the path there.
+    /// Where a reference leads, as [`Resolver::lookup`] has it, and where that value is: the layer, counted from 0 for the
+    /// registry's own documents, the number of the document in it, and the path there.
     ///
-    /// Refuses as [`Resolver::lookup`] does, whose cost it has, and a look-up more. Takes memory for the path's parts
-    /// and, of a pointer, for its keys; the other keys are borrowed.
+    /// Refuses as [`Resolver::lookup`] does, whose cost it has, and a step more for each part of a pointer. Takes memory for
+    /// the path's parts and, of a pointer, for its keys; the other keys are borrowed.
+    pub fn lookup_located(
+        &self,
+        alloc: Global,
+        reference: &str,
+    ) -> Result<(Resolved<'r>, Location<'r>), Error>
+        ensures gives { Gives (λ f. found_of f.0)
+            (lookup (world_of self.now) (resolver_of self.now) reference.now) result }
+        ensures there { IfOk result
+            (λ f. IsValueAt (world_of self.now) f.1 (found_of f.0).value) }
+        ensures spot { IfOk result
+            (λ f. lookup_location (world_of self.now) (resolver_of self.now) reference.now
+            ≡ Some (location_view f.1)) }
+        ensures world { IfOk result (λ f. world_found f.0 ≡ world_of self.now) }
+    {
+        let Target { uri, fragment, .. } = self.target(alloc, reference)?;
+        if is_name(fragment) {
+            return self.located_name(alloc, uri, fragment);
+        }
+        let Some(place) = self.layers.numbered_resource(uri.as_str()) else {
+            return Err(not_retrieved(alloc, &uri));
+        };
+        match fragment.strip_prefix('/') {
+            Some(text) => self.located_pointer(alloc, uri, place, fragment, text),
+            None => Ok(self.located_at(alloc, uri, place)?),
+        }
+    }
+
+    /// Where `$recursiveRef` leads, as [`Resolver::lookup_recursive_ref`] has it, and where that value is. Refuses as that call
+    /// does, whose cost it has, and a look-up more; takes memory for the path's parts.
+    pub fn lookup_recursive_located(
+        &self,
+        alloc: Global,
+    ) -> Result<(Resolved<'r>, Location<'r>), Error>
+        ensures gives { Gives (λ f. found_of f.0)
+            (lookup_recursive (world_of self.now) (resolver_of self.now)) result }
+        ensures there { IfOk result
+            (λ f. IsValueAt (world_of self.now) f.1 (found_of f.0).value) }
+        ensures spot { IfOk result
+            (λ f. lookup_location (world_of self.now) (resolver_of self.now)
+            (recursive_reference (world_of self.now) (resolver_of self.now))
+            ≡ Some (location_view f.1)) }
+        ensures world { IfOk result (λ f. world_found f.0 ≡ world_of self.now) }
+    {
+        let (_, reference) = self.recursive(alloc)?;
+        self.lookup_located(alloc, reference)
+    }
+
+    /// Where the value is that [`Resolver::lookup`] of a reference returns, as [`Resolver::lookup_located`] says it, which it
+    /// calls.
     pub fn location(&self, alloc: Global, reference: &str) -> Result<Location<'r>, Error>
         ensures gives { GivesWhere (world_of self.now)
             (lookup (world_of self.now) (resolver_of self.now) reference.now) result }
@@ -309,21 +262,12 @@ impl<'r> Resolver<'r> {
             (λ l. lookup_location (world_of self.now) (resolver_of self.now) reference.now
             ≡ Some (location_view l)) }
     {
-        let Target { uri, fragment, .. } = self.target(alloc, reference)?;
-        if is_name(fragment) {
-            return self.location_of_name(alloc, uri, fragment);
-        }
-        let Some(place) = self.layers.numbered_resource(uri.as_str()) else {
-            return Err(not_retrieved(alloc, &uri));
-        };
-        match fragment.strip_prefix('/') {
-            Some(text) => location_along(alloc, self.layers, uri, place, fragment, text),
-            None => Ok(location_of(alloc, place)?),
-        }
+        let (_, location) = self.lookup_located(alloc, reference)?;
+        Ok(location)
     }
 
-    /// Where the value is that [`Resolver::lookup_recursive_ref`] returns, as [`Resolver::location`] says it. Refuses
-    /// as that call does, whose cost it has, and takes memory for the path's parts.
+    /// Where the value is that [`Resolver::lookup_recursive_ref`] returns, as [`Resolver::lookup_recursive_located`] says it,
+    /// which it calls.
     pub fn location_recursive(&self, alloc: Global) -> Result<Location<'r>, Error>
         ensures gives { GivesWhere (world_of self.now)
             (lookup_recursive (world_of self.now) (resolver_of self.now)) result }
@@ -332,92 +276,164 @@ impl<'r> Resolver<'r> {
             (recursive_reference (world_of self.now) (resolver_of self.now))
             ≡ Some (location_view l)) }
     {
-        let (_, reference) = self.recursive(alloc)?;
-        self.location(alloc, reference)
+        let (_, location) = self.lookup_recursive_located(alloc)?;
+        Ok(location)
     }
 
-    // Where the value is that a name means under a URI.
-    fn location_of_name(
+    // The value at a place under a URI, and where it is.
+    fn located_at(
+        &self,
+        alloc: Global,
+        uri: Rc<Uri>,
+        found: Numbered<'r>,
+    ) -> Result<(Resolved<'r>, Location<'r>), AllocError>
+        ensures found { IfOk result
+            (λ f. found_of f.0
+            ≡ record {
+              value = view found.entry.place.value.now;
+              draft = found.entry.place.entry.now.draft;
+              resolver = moved_resolver (resolver_of self.now) uri.value;
+            }) }
+        ensures there { (w : World) (p : Place) → IsLocatedAt w found.entry p
+            → IfOk result (λ f. IsValueAt w f.1 p.value) }
+        ensures spot { IfOk result
+            (λ f. location_view f.1
+            ≡ (found.entry.layer, spot_of found.entry.place.entry.now)) }
+        ensures world { IfOk result (λ f. world_found f.0 ≡ world_of self.now) }
+    {
+        let location = location_of(alloc, found)?;
+        let resolver = self.moved(alloc, uri)?;
+        let resolved = Resolved {
+            contents: found.place.value,
+            resolver,
+            draft: found.place.entry.draft,
+        };
+        Ok((resolved, location))
+    }
+
+    // What a pointer leads to in the resource at a place under a URI, and where that is; `text` is the fragment after its
+    // first `/`.
+    fn located_pointer(
+        &self,
+        alloc: Global,
+        uri: Rc<Uri>,
+        found: Numbered<'r>,
+        pointer: &str,
+        text: &str,
+    ) -> Result<(Resolved<'r>, Location<'r>), Error>
+        ensures gives { Gives (λ f. found_of f.0)
+            (at_pointer (moved_resolver (resolver_of self.now) uri.value)
+            found.entry.place.entry.now.draft pointer.now
+            (view found.entry.place.value.now) text.now)
+            result }
+        ensures there { (w : World) (p : Place) → IsLocatedAt w found.entry p
+            → IfOk result (λ f. IsValueAt w f.1 (found_of f.0).value) }
+        ensures spot { IfOk result
+            (λ f. location_view f.1
+            ≡ with_parts
+            (parts_along pointer.now (view found.entry.place.value.now)
+            (tokens (percent_decode text.now)))
+            (found.entry.layer, spot_of found.entry.place.entry.now)) }
+        ensures world { IfOk result (λ f. world_found f.0 ≡ world_of self.now) }
+    {
+        let scope = self.scope_at(alloc, uri.as_str())?;
+        let resolved = self.at_pointer(alloc, uri, scope, found.place, pointer, text)?;
+        let location = location_along(alloc, found, text)?;
+        Ok((resolved, location))
+    }
+
+    // What a name means under a URI, and where that is.
+    fn located_name(
         &self,
         alloc: Global,
         uri: Rc<Uri>,
         name: &str,
-    ) -> Result<Location<'r>, Error>
+    ) -> Result<(Resolved<'r>, Location<'r>), Error>
         ensures gives { (reference : List ℕ)
             → target (resolver_of self.now).base reference ≡ Ok uri.value
             → fragment_part reference ≡ name.now → is_name name.now ≡ true
-            → GivesWhere (world_of self.now)
+            → Gives (λ f. found_of f.0)
             (lookup (world_of self.now) (resolver_of self.now) reference) result }
+        ensures there { IfOk result
+            (λ f. IsValueAt (world_of self.now) f.1 (found_of f.0).value) }
         ensures spot { (reference : List ℕ)
             → target (resolver_of self.now).base reference ≡ Ok uri.value
             → fragment_part reference ≡ name.now → is_name name.now ≡ true
             → IfOk result
-            (λ l. lookup_location (world_of self.now) (resolver_of self.now) reference
-            ≡ Some (location_view l)) }
+            (λ f. lookup_location (world_of self.now) (resolver_of self.now) reference
+            ≡ Some (location_view f.1)) }
+        ensures world { IfOk result (λ f. world_found f.0 ≡ world_of self.now) }
     {
         let Some(found) = numbered_meaning(&self.layers, uri.as_str(), name) else {
             return Err(self.no_name(alloc, &uri, name));
         };
         if found.named.is_dynamic {
-            return self.location_of_dynamic(alloc, uri, name, found.place.place);
+            return self.located_dynamic(alloc, uri, name, found.place.place);
         }
-        Ok(location_of(alloc, found.place)?)
+        Ok(self.located_at(alloc, uri, found.place)?)
     }
 
-    // Where the value is that a name means under a URI where a dynamic anchor has it, at the place that was found.
-    fn location_of_dynamic(
+    // What a name means under a URI where a dynamic anchor has it, at the place that was found, and where that is.
+    fn located_dynamic(
         &self,
         alloc: Global,
         uri: Rc<Uri>,
         name: &str,
         found: Located<'r>,
-    ) -> Result<Location<'r>, Error>
+    ) -> Result<(Resolved<'r>, Location<'r>), Error>
         ensures gives { (n : Named) → n.name ≡ name.now → n.kind ≡ Dynamic
             → IsLocated found.entry n.place → anchor (world_of self.now) uri.value name.now ≡ Ok n
-            → GivesWhere (world_of self.now)
+            → Gives (λ f. found_of f.0)
             (named_found (world_of self.now)
             (moved_resolver (resolver_of self.now) uri.value) n n.kind)
             result }
+        ensures there { IfOk result
+            (λ f. IsValueAt (world_of self.now) f.1 (found_of f.0).value) }
         ensures spot { (n : Named) → n.name ≡ name.now → n.kind ≡ Dynamic
             → IsLocated found.entry n.place → anchor (world_of self.now) uri.value name.now ≡ Ok n
             → IfOk result
-            (λ l. anchor_spot (world_of self.now)
+            (λ f. anchor_spot (world_of self.now)
             (naming_uri (world_of self.now) (moved_resolver (resolver_of self.now) uri.value) n
             n.kind) name.now
-            ≡ Some (location_view l)) }
+            ≡ Some (location_view f.1)) }
+        ensures world { IfOk result (λ f. world_found f.0 ≡ world_of self.now) }
     {
         let resolver = self.moved(alloc, uri)?;
-        let location = resolver.location_by_scope(alloc, name, found);
+        let located = resolver.located_by_scope(alloc, name, found);
         drop(resolver);
-        location
+        located
     }
 
-    // Where the value is that a name means by the dynamic scope where a dynamic anchor has it, at the place that was found
-    // under the base.
-    fn location_by_scope(
+    // What a name means by the dynamic scope where a dynamic anchor has it, at the place that was found under the base, and
+    // where that is.
+    fn located_by_scope(
         &self,
         alloc: Global,
         name: &str,
         found: Located<'r>,
-    ) -> Result<Location<'r>, Error>
+    ) -> Result<(Resolved<'r>, Location<'r>), Error>
         ensures gives { (n : Named) → n.name ≡ name.now → n.kind ≡ Dynamic
             → IsLocated found.entry n.place
             → anchor (world_of self.now) (resolver_of self.now).base name.now ≡ Ok n
-            → GivesWhere (world_of self.now)
+            → Gives (λ f. found_of f.0)
             (named_found (world_of self.now) (resolver_of self.now) n n.kind) result }
+        ensures there { IfOk result
+            (λ f. IsValueAt (world_of self.now) f.1 (found_of f.0).value) }
         ensures spot { (n : Named) → n.name ≡ name.now → n.kind ≡ Dynamic
             → IsLocated found.entry n.place
             → anchor (world_of self.now) (resolver_of self.now).base name.now ≡ Ok n
             → IfOk result
-            (λ l. anchor_spot (world_of self.now)
+            (λ f. anchor_spot (world_of self.now)
             (naming_uri (world_of self.now) (resolver_of self.now) n n.kind) name.now
-            ≡ Some (location_view l)) }
+            ≡ Some (location_view f.1)) }
+        ensures world { IfOk result (λ f. world_found f.0 ≡ world_of self.now) }
     {
-        let (uri, place) = outermost(alloc, self, name, found)?;
-        let _ = base_under(alloc, &self.layers, uri, place)?;
-        match numbered_meaning(&self.layers, uri.as_str(), name) {
-            Some(found) => Ok(location_of(alloc, found.place)?),
-            None => Err(not_named(alloc, name)),
-        }
+        let (uri, _) = outermost(alloc, self, name, found)?;
+        let Some(found) = numbered_meaning(&self.layers, uri.as_str(), name) else {
+            return Err(not_named(alloc, name));
+        };
+        let location = location_of(alloc, found.place)?;
+        let resolved = under_uri(alloc, self, uri, found.place.place)?;
+        Ok((resolved, location))
     }
 }

@@ -306,7 +306,7 @@ impl<'r> Resolver<'r> {
     // What a pointer leads to in the resource at a place under a URI, with the scope there, where `text` is the fragment after
     // its first `/`. Its many values stay out of the look-up of whole resources.
     #[inline(never)]
-    fn at_pointer(
+    pub(crate) fn at_pointer(
         &self,
         alloc: Global,
         uri: Rc<Uri>,

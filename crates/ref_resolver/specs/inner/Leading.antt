@@ -1,14 +1,16 @@
 -- Where a pointer leads, with the path there, and where a name does.
-use Rattle.std.specs.Prelude.{◌≡◌, ℕ, List, map, Some, Result, Ok, OnOk}
+use Rattle.std.specs.Prelude.{◌≡◌, ℕ, List, ◌∷◌, ◌++◌, Option, MatchOption, Result, Ok}
+use Rattle.std.specs.Borrow.{Bor}
 use Rattle.serde_json.specs.Data.{Data}
+use Rattle.serde_json.specs.View.{view}
+use Rattle.serde_json.specs.declared.value.Value.{Value}
 use Rattle.ref_draft.specs.declared.draft.Draft.{Draft}
 use Rattle.ref_definitions.specs.Results.{◌>>=◌}
 use Rattle.ref_definitions.specs.Fault.{Fault, as_invalid_uri}
 use Rattle.ref_definitions.specs.Pointers.{pointed_value}
 use Rattle.ref_definitions.specs.Lookup as world
-use Rattle.ref_paths.specs.Path.{value_at}
-use Rattle.ref_paths.specs.Segment.{part_of}
-use Rattle.ref_paths.specs.declared.path.JsonPointerSegment.{JsonPointerSegment}
+use Rattle.ref_paths.specs.Path.{Part}
+use Rattle.ref_resolver.specs.Locations.{parts_along}
 
 -- where a pointer leads in a resource of a draft that a resolver is at
 abbrev pub at_pointer : world.Resolver → Draft → List ℕ → Data → List ℕ → Result world.Found Fault
@@ -21,14 +23,10 @@ under_uri r uri draft value =
     as_invalid_uri (world.in_subresource (record r { base = uri }) draft value)
     >>= λ moved. Ok (record { value = value; draft = draft; resolver = moved })
 
--- a walk along a pointer ends at a value, which a path from a start leads to
-abbrev pub EndsAt : {A : Type 0} → Data → List JsonPointerSegment → Result (Data × A) Fault → Type 0
-EndsAt {A = A} start path answer =
-    (at : Data × A) × (answer ≡ Ok at) × (value_at start (map part_of path) ≡ Some at.0)
-
--- a path from a start to a value is made longer, up to the value that a walk ends at
-abbrev pub LeadsOn : {A B E : Type 0} → List JsonPointerSegment → List JsonPointerSegment → Data
-    → Result (Data × A) Fault → Result B E → Type 0
-LeadsOn before after value answer result =
-    (start : Data) → value_at start (map part_of before) ≡ Some value
-    → OnOk result (EndsAt start after answer)
+-- a token adds its part to a path where it leads to a value, and the parts of more tokens are those from there on
+abbrev pub IsPartOn : List ℕ → Data → List ℕ → List (List ℕ) → List Part → List Part
+    → Option (Bor Value) → Type 0
+IsPartOn pointer value token more before after next =
+    MatchOption next (after ≡ before ++ parts_along pointer value (token ∷ more))
+    (λ v. after ++ parts_along pointer (view v.now) more
+    ≡ before ++ parts_along pointer value (token ∷ more))
