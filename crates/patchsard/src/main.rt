@@ -1,15 +1,13 @@
-//! Lints, follows, bundles, lists and draws the references of folders of JSON Schema files. What files are read is
-//! `ref_reading`, and how messages are printed `ref_messages`. Each subcommand is in a file of its name: `bundle` in `ref_bundle_files`,
-//! `serve` here, and the others in `ref_project`.
+//! Lints, follows, bundles, lists and draws the references of folders of JSON Schema files. What may be
+//! on its command line is in `ref_command_line`. Each subcommand is in a file of its name: `serve` here, and the others in `ref_commands`.
 #![tactic(auto)]
 
 mod serve;
 
 use clap::ArgMatches;
-use ref_bundle_files::bundle;
+use ref_command_line::{Console, Stop, command, console};
+use ref_commands::{bundle, graph, lint, places, resolve};
 use ref_messages::PlainBytes;
-use ref_project::{graph, lint, places, resolve};
-use ref_reading::{Console, Stop, command, console};
 use simdutf8::compat::from_utf8;
 use std::env::{Env, FillError};
 use std::process::ExitCode;

@@ -1,5 +1,5 @@
 //! `patchsard serve`.
-use ref_reading::{Stop, say};
+use ref_command_line::{Stop, say};
 use ref_serve::{Input, Output, RunError, State, serve};
 
 /// Answers the calls on standard input, one a line, on standard output. The status is 0 where the input ends.

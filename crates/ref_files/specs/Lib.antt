@@ -1,3 +1,4 @@
 pub mod Meant
 pub mod Plain
+pub mod Texts
 pub mod Uris

@@ -1,0 +1,14 @@
+//! The command line of `patchsard` and its standard streams: what may be given, what is asked to be read, standard output, what is said on
+//! standard error, and why the program stops.
+#![tactic(auto)]
+
+pub mod command;
+pub mod console;
+pub mod options;
+mod said;
+pub mod stop;
+
+pub use console::Console;
+pub use options::Reading;
+pub use said::{say, say_failures, say_of};
+pub use stop::Stop;

@@ -1,0 +1,597 @@
+//! `patchsard bundle`.
+use crate::message::message_at;
+use crate::opened::{Opened, open_file, reported};
+use clap::ArgMatches;
+use ref_bundle::{Bundle, Embedded};
+use ref_command_line::{Console, Stop, say, say_failures, say_of};
+use ref_draft::Draft;
+use ref_files::{WriteError, parsed, write_file};
+use ref_findings::{Finding, Problem};
+use ref_index::Place;
+use ref_messages::{Level, Plain, push_text};
+use ref_parts::pointer_of;
+use ref_positions::splice::{Added, Part, with_added, with_parts};
+use ref_uri::UriRef;
+use ref_workspace::Describer;
+use ref_workspace::world::{World, outside_of, world_above};
+use referencing::{Registry, ResourceRef};
+use serde_json::Value;
+use std::alloc::{AllocError, Global};
+use std::io;
+
+// What to do where a document isn't among the given files.
+const BY_NAME: &str = "name its file or folder by --with, or a folder that has it by --map";
+
+/// Writes one document in place of several. The status is 0 where it is written, 1 where there is no bundle, 2 where a
+/// path can't be read or written, and 3 where the text that was made isn't that of the bundle.
+pub fn bundle(
+    rt: &HostRuntime,
+    console: &mut Console<'_>,
+    given: &ArgMatches<'_>,
+) -> Result<u8, Stop> {
+    let opened = open_file(rt, given, given.get_str("output"))?;
+    let status = if opened.has_failed {
+        Ok(2)
+    } else {
+        bundle_opened(rt, console, given, &opened)
+    };
+    drop(opened);
+    status
+}
+
+// The bundle of what was read.
+fn bundle_opened(
+    rt: &HostRuntime,
+    console: &mut Console<'_>,
+    given: &ArgMatches<'_>,
+    opened: &Opened<'_>,
+) -> Result<u8, Stop> {
+    let list = opened.workspace.full_report(rt.alloc())?.findings;
+    let outside = reported(rt, outside_of(rt.alloc(), list.as_slice()))?;
+    bundle_above(rt, console, given, opened, list.as_slice(), &outside)
+}
+
+// The bundle of what was read, above a registry of what stays outside.
+fn bundle_above<'s, 'd>(
+    rt: &'s HostRuntime,
+    console: &mut Console<'_>,
+    given: &'s ArgMatches<'_>,
+    opened: &'d Opened<'_>,
+    list: &'s [Finding<'d>],
+    outside: &Registry<'_>,
+) -> Result<u8, Stop> {
+    let trees = opened.workspace.mended(rt.alloc())?;
+    let world = world_above(rt.alloc(), outside, &opened.workspace, trees.as_slice());
+    let world = reported(rt, world)?;
+    let sources = Sources {
+        rt,
+        given,
+        opened,
+        list,
+        world: &world,
+    };
+    match ref_bundle::bundle(rt.alloc(), &world.registry, 0) {
+        Ok(bundle) => sources.write(console, &bundle),
+        Err(error) => {
+            let status = sources.refuse(&error);
+            drop(error);
+            status
+        }
+    }
+}
+
+/// What a bundle is made from, and what is asked for.
+#[derive(Clone, Copy, Drop)]
+pub(crate) struct Sources<'s, 'a, 'd, 'm, 'w, 'o> {
+    pub rt: &'s HostRuntime,
+    given: &'s ArgMatches<'a>,
+    pub opened: &'d Opened<'m>,
+    list: &'s [Finding<'d>],
+    pub world: &'w World<'o>,
+}
+
+impl<'s, 'a, 'd, 'm, 'w, 'o> Sources<'s, 'a, 'd, 'm, 'w, 'o> {
+    /// The number of what was read as a document, where it was read.
+    pub fn source(&self, document: usize) -> Option<usize> {
+        self.world.sources.get(document).copied()
+    }
+
+    fn write(&self, console: &mut Console<'_>, bundle: &Bundle) -> Result<u8, Stop> {
+        if self.has_problems(bundle)? {
+            say(self.rt, "not bundled");
+            return Ok(1);
+        }
+        let Some(text) = self.text(bundle)? else {
+            return Ok(3);
+        };
+        self.say_uri(bundle);
+        match self.given.get_str("output") {
+            Some(path) if !is_output(path) => {
+                status_of(self.rt, write_file(self.rt, path, text.as_str()))
+            }
+            _ => {
+                console.out.push_str(text.as_str())?;
+                Ok(0)
+            }
+        }
+    }
+
+    // Whether a document that is needed has faults, or something that is needed isn't there.
+    fn has_problems(&self, bundle: &Bundle) -> Result<bool, Stop> {
+        let needed = self.needed(bundle)?;
+        Ok(self.has_faults(needed.as_slice())? || self.is_incomplete(bundle, needed.as_slice())?)
+    }
+
+    // Prints what is wrong with the documents that are needed, and returns whether that keeps them from being bundled:
+    // an unresolvable pointer or anchor does so by `--strict` alone, and is a warning without it.
+    fn has_faults(&self, needed: &[bool]) -> Result<bool, AllocError> {
+        let mut describer = Describer::new(
+            self.rt.alloc(),
+            &self.opened.workspace,
+            self.list,
+            false,
+        )?;
+        let is_faulty = self.say_faults(&mut describer, needed);
+        drop(describer);
+        is_faulty
+    }
+
+    fn say_faults(
+        &self,
+        describer: &mut Describer<'_, '_>,
+        needed: &[bool],
+    ) -> Result<bool, AllocError> {
+        let is_strict = self.given.get_flag("strict");
+        let mut out = String::new(self.rt.alloc());
+        let mut is_faulty = false;
+        for place in 0..describer.len() {
+            if let Some(finding) = describer.finding(place) {
+                if concerns(finding, needed) {
+                    let level = if is_strict || is_fault(finding) {
+                        Level::Error
+                    } else {
+                        Level::Warning
+                    };
+                    is_faulty |= is_strict || is_fault(finding);
+                    self.push_message(&mut out, describer, place, level)?;
+                }
+            }
+        }
+        let _ = eprint!(self.rt; "{out}");
+        Ok(is_faulty)
+    }
+
+    // Whether a needed document isn't there, or a needed place refers to none, or to the root by a URI that its
+    // identifier replaces.
+    fn is_incomplete(&self, bundle: &Bundle, needed: &[bool]) -> Result<bool, Stop> {
+        let mut is_incomplete = self.say_missing(bundle);
+        let places = self.world.places(self.rt.alloc())?;
+        let replaced = self.replaced(places.as_slice());
+        for place in &places {
+            if let Some(number) = self.source(place.document) {
+                if is_true(needed, number) {
+                    is_incomplete |= self.is_lost(number, place, replaced)?;
+                }
+            }
+        }
+        Ok(is_incomplete)
+    }
+
+    // Says which needed documents aren't there, and returns whether there are some.
+    fn say_missing(&self, bundle: &Bundle) -> bool {
+        let mut is_missing = false;
+        for embedded in &bundle.embedded {
+            if self.source(embedded.document).is_none() {
+                let uri = embedded.uri.as_str();
+                let _ = eprintln!(self.rt;
+                    "patchsard: document '{uri}' is not among the given files\n    help: {BY_NAME}"
+                );
+                is_missing = true;
+            }
+        }
+        is_missing
+    }
+
+    // Whether a place refers to no document, or to the root by a URI that its identifier replaces.
+    fn is_lost(
+        &self,
+        number: usize,
+        place: &Place<'_>,
+        replaced: Option<&str>,
+    ) -> Result<bool, Stop> {
+        let mut is_lost = false;
+        for keyword in ["$ref", "$dynamicRef"] {
+            if let Some(text) = place.value.get(keyword).and_then(Value::as_str) {
+                if let Some(why) = self.lost(place, text, replaced)? {
+                    self.say_lost(number, place, (keyword, text), why)?;
+                    is_lost = true;
+                }
+            }
+        }
+        Ok(is_lost)
+    }
+
+    // Says why a reference of a place has no meaning in a bundle, and what to change.
+    fn say_lost(
+        &self,
+        number: usize,
+        place: &Place<'_>,
+        (keyword, text): (&str, &str),
+        (why, help): (&str, &str),
+    ) -> Result<(), Stop> {
+        let at = self.place_in(number, place.path.as_slice())?;
+        let pointer = pointer_of(self.rt.alloc(), place.path.as_slice())?;
+        let _ = eprintln!(self.rt;
+            "{at}: error: {why}\n    {keyword} '{}' at '{}'\n    help: {help}",
+            Plain(text),
+            Plain(pointer.as_str())
+        );
+        Ok(())
+    }
+
+    // Why a reference of a place has no meaning in a bundle, and what to change.
+    fn lost(
+        &self,
+        place: &Place<'_>,
+        text: &str,
+        replaced: Option<&str>,
+    ) -> Result<Option<(&'static str, &'static str)>, AllocError> {
+        let alloc = self.rt.alloc();
+        let (front, _) = text.rsplit_once('#').unwrap_or((text, ""));
+        let Some(uri) = self.world.resolved(alloc, place, front)? else {
+            return Ok(Some((
+                "It is not a URI reference",
+                "write it as RFC 3986 asks, with % escapes",
+            )));
+        };
+        if !self.world.registry.contains_resource(alloc, uri.as_str())? {
+            return Ok(Some(("Its document is not among the given files", BY_NAME)));
+        }
+        if replaced == Some(uri.as_str()) {
+            return Ok(Some((
+                "It names the root by a URI that the root's identifier replaces",
+                "refer to the root by its identifier",
+            )));
+        }
+        Ok(None)
+    }
+
+    // The root's URI, where its identifier gives another in place of it.
+    fn replaced(&self, places: &[Place<'_>]) -> Option<&str> {
+        let uri = self.world.registry.documents().first()?.uri.as_str();
+        let base = places.first()?.base.as_str();
+        if uri == base { None } else { Some(uri) }
+    }
+
+    // Says under which URI a bundle is to be read that has no absolute identifier.
+    fn say_uri(&self, bundle: &Bundle) {
+        let Some(root) = self.opened.workspace.documents().first() else {
+            return;
+        };
+        let draft = self.draft(0);
+        let keyword = draft.id_keyword();
+        let id = ResourceRef::new(&bundle.value, draft).id().unwrap_or("");
+        if !bundle.embedded.is_empty() && !is_absolute(id) {
+            let _ = eprintln!(self.rt;
+                "patchsard: note: the bundle has no absolute {keyword}; its references keep their meaning where it is read under {}",
+                root.uri.as_str()
+            );
+        }
+    }
+
+    // Which of what was read is needed.
+    fn needed(&self, bundle: &Bundle) -> Result<Vec<bool>, AllocError> {
+        let mut needed = vec![in self.rt.alloc(); false; self.opened.workspace.len()]?;
+        set(&mut needed, self.source(0));
+        for embedded in &bundle.embedded {
+            set(&mut needed, self.source(embedded.document));
+        }
+        Ok(needed)
+    }
+
+    // The text of a bundle, or nothing where what was made has another value.
+    fn text(&self, bundle: &Bundle) -> Result<Option<String>, Stop> {
+        let Some(schema) = self.missing_schema(bundle) else {
+            return self.text_with(bundle, &bundle.value, None);
+        };
+        let value = with_schema(self.rt.alloc(), &bundle.value, schema)?;
+        let text = self.text_with(bundle, &value, Some(schema));
+        drop(value);
+        text
+    }
+
+    // The `$schema` that the root gets, so that a reader takes it for what it is: where it has none and isn't of the draft
+    // that a reader takes it for.
+    fn missing_schema(&self, bundle: &Bundle) -> Option<&'static str> {
+        if bundle.value.as_object()?.contains_key("$schema") {
+            return None;
+        }
+        schema_of(self.draft(0))
+    }
+
+    // The text of a bundle whose root gets a `$schema`, and then has a value.
+    fn text_with(
+        &self,
+        bundle: &Bundle,
+        value: &Value,
+        schema: Option<&str>,
+    ) -> Result<Option<String>, Stop> {
+        let text = if self.given.get_flag("minify") {
+            Some(minified(self.rt.alloc(), value)?)
+        } else {
+            self.spliced(bundle, schema)?
+        };
+        let Some(text) = text else {
+            let why = "the text of a document can't be read again; nothing is written";
+            say(self.rt, why);
+            return Ok(None);
+        };
+        if self.is_text_of(text.as_str(), value)? {
+            return Ok(Some(text));
+        }
+        Ok(None)
+    }
+
+    // Whether a text is that of a value. Where it isn't standard error says so.
+    fn is_text_of(&self, text: &str, value: &Value) -> Result<bool, AllocError> {
+        match parsed(self.rt.alloc(), text)? {
+            Ok(made) => {
+                let is_same = made == *value;
+                drop(made);
+                if !is_same {
+                    let why = "the text that was made isn't that of the bundle; nothing is written";
+                    say(self.rt, why);
+                }
+                Ok(is_same)
+            }
+            Err(fault) => {
+                let _ = eprintln!(self.rt;
+                    "patchsard: the bundle can't be read: {}; nothing is written",
+                    fault.text
+                );
+                Ok(false)
+            }
+        }
+    }
+
+    // The text of the root, with a `$schema` where it gets one, with those of the documents that are embedded.
+    fn spliced(&self, bundle: &Bundle, schema: Option<&str>) -> Result<Option<String>, Stop> {
+        let Some(root) = self.opened.workspace.documents().first() else {
+            return Ok(None);
+        };
+        match schema {
+            Some(schema) => match root_with(self.rt.alloc(), root.text.text.as_str(), schema)? {
+                Some(root) => self.with_embedded(bundle, root.as_str()),
+                None => Ok(None),
+            },
+            None => self.with_embedded(bundle, root.text.text.as_str()),
+        }
+    }
+
+    // The root's text with those of the documents that are embedded.
+    fn with_embedded(&self, bundle: &Bundle, root: &str) -> Result<Option<String>, Stop> {
+        let alloc = self.rt.alloc();
+        if bundle.embedded.is_empty() {
+            return Ok(Some(String::from_str(alloc, root)?));
+        }
+        let mut parts = Vec::new(alloc);
+        for embedded in &bundle.embedded {
+            match self.part(embedded)? {
+                Some(part) => push(&mut parts, part)?,
+                None => return Ok(None),
+            }
+        }
+        let keyword = definitions(self.draft(0));
+        Ok(with_parts(alloc, root, keyword, parts.as_slice())?)
+    }
+
+    fn draft(&self, document: usize) -> Draft {
+        match self.world.registry.documents().get(document) {
+            Some(document) => document.draft,
+            None => Draft::Draft202012,
+        }
+    }
+
+    fn part(&self, embedded: &Embedded) -> Result<Option<Part>, Stop> {
+        let alloc = self.rt.alloc();
+        let Some(text) = self.source_text(embedded.document)? else {
+            return Ok(None);
+        };
+        let keyword = self.draft(embedded.document).id_keyword();
+        let added = Added {
+            keyword,
+            id: self.new_id(embedded, keyword),
+            schema: embedded.schema,
+        };
+        let Some(text) = with_added(alloc, text.as_str(), added)? else {
+            return Ok(None);
+        };
+        let uri = String::from_str(alloc, embedded.uri.as_str())?;
+        Ok(Some(Part { uri, text }))
+    }
+
+    // The identifier that an embedded document gets, where it has another or none.
+    fn new_id<'e>(&self, embedded: &'e Embedded, keyword: &str) -> Option<&'e str> {
+        let value = self.world.registry.value_at(embedded.document, &[]);
+        let id = match value {
+            Some(value) => value.get(keyword).and_then(Value::as_str),
+            None => None,
+        };
+        let uri = embedded.uri.as_str();
+        if id == Some(uri) { None } else { Some(uri) }
+    }
+
+    // The text of a document that was read.
+    fn source_text(&self, document: usize) -> Result<Option<String>, Stop> {
+        match self.source(document) {
+            Some(number) => self.text_in(number),
+            None => Ok(None),
+        }
+    }
+
+    /// The text of what was read with this number. That of a document from a map is read again.
+    pub fn text_in(&self, number: usize) -> Result<Option<String>, Stop> {
+        if let Some(document) = self.opened.workspace.documents().get(number) {
+            return Ok(Some(document.text.text.clone()?));
+        }
+        match self.opened.workspace.uri(number) {
+            Some(uri) => self.mapped_text(uri.as_str()),
+            None => Ok(None),
+        }
+    }
+
+    // The text of a document from a map.
+    fn mapped_text(&self, uri: &str) -> Result<Option<String>, Stop> {
+        let text = self.opened.maps.text(self.rt.alloc(), uri)?;
+        say_failures(self.rt, &self.opened.maps.take_failures());
+        Ok(text)
+    }
+
+    // Adds the message on the finding at a place, with a level.
+    fn push_message(
+        &self,
+        out: &mut String,
+        describer: &mut Describer<'_, '_>,
+        place: usize,
+        level: Level,
+    ) -> Result<(), AllocError> {
+        match message_at(self.rt, self.opened, describer, place)? {
+            Some(mut message) => {
+                message.level = level;
+                let pushed = push_text(out, &message);
+                drop(message);
+                pushed
+            }
+            None => Ok(()),
+        }
+    }
+}
+
+// The status where a file was written, or was not, which standard error says.
+fn status_of(rt: &HostRuntime, written: Result<(), WriteError>) -> Result<u8, Stop> {
+    match written {
+        Ok(()) => Ok(0),
+        Err(WriteError::Memory) => Err(Stop::Memory),
+        Err(WriteError::File { path, error }) => {
+            say_unwritten(rt, path.as_str(), error);
+            Ok(2)
+        }
+    }
+}
+
+// Says why a file can't be written.
+fn say_unwritten(rt: &HostRuntime, path: &str, error: io::Error) {
+    if error.kind() == io::ErrorKind::InvalidInput {
+        let why = "not a regular file; without -o a bundle goes to standard output";
+        return say_of(rt, path, why);
+    }
+    let is_there = error.kind() == io::ErrorKind::AlreadyExists;
+    say_of(rt, path, error);
+    if is_there {
+        let _ = eprintln!(rt; "    help: remove it, unless another run is writing it");
+    }
+}
+
+// The value of a root with a `$schema` in it.
+fn with_schema(alloc: Global, value: &Value, schema: &str) -> Result<Value, AllocError> {
+    let mut made = value.clone()?;
+    if let Some(members) = made.as_object_mut() {
+        let key = String::from_str(alloc, "$schema")?;
+        let schema = String::from_str(alloc, schema)?;
+        members.insert(key, Value::String(schema))?;
+    }
+    Ok(made)
+}
+
+// The text of a root with a `$schema` at its beginning. What is around its braces stays.
+fn root_with(alloc: Global, text: &str, schema: &str) -> Result<Option<String>, AllocError> {
+    let body = text.trim();
+    let added = Added {
+        keyword: "$schema",
+        id: None,
+        schema: Some(schema),
+    };
+    let Some(made) = with_added(alloc, body, added)? else {
+        return Ok(None);
+    };
+    let (front, _) = text.split_once('{').unwrap_or(("", text));
+    let (_, end) = text.rsplit_once('}').unwrap_or((text, ""));
+    Ok(Some([front, made.as_str(), end].join(alloc, "")?))
+}
+
+// The `$schema` of a draft, but for the one that a reader takes a document for that has none.
+fn schema_of(draft: Draft) -> Option<&'static str> {
+    match draft {
+        Draft::Draft4 => Some("http://json-schema.org/draft-04/schema#"),
+        Draft::Draft6 => Some("http://json-schema.org/draft-06/schema#"),
+        Draft::Draft7 => Some("http://json-schema.org/draft-07/schema#"),
+        Draft::Draft201909 => Some("https://json-schema.org/draft/2019-09/schema"),
+        _ => None,
+    }
+}
+
+// Whether a path means standard output.
+fn is_output(path: &str) -> bool {
+    matches!(path, "-" | "/dev/stdout" | "/dev/fd/1" | "/proc/self/fd/1")
+}
+
+// A value on a line.
+fn minified(alloc: Global, value: &Value) -> Result<String, AllocError> {
+    let mut line = value.to_string(alloc)?;
+    line.push('\n')?;
+    Ok(line)
+}
+
+// Whether a text is a URI with a scheme.
+fn is_absolute(text: &str) -> bool {
+    match UriRef::parse(text) {
+        Ok(uri) => uri.has_scheme(),
+        Err(_) => false,
+    }
+}
+
+// Whether a finding is of interest for a bundle of these documents.
+fn concerns(finding: &Finding<'_>, needed: &[bool]) -> bool {
+    match &finding.problem {
+        Problem::DuplicateIdentifier { first, .. } => {
+            finding.keyword.is_none()
+                && (is_true(needed, finding.source) || is_true(needed, first.source))
+        }
+        Problem::NotJson
+        | Problem::InvalidUri(_)
+        | Problem::MissingDocument { .. }
+        | Problem::LeadsNowhere { .. } => is_true(needed, finding.source),
+        _ => false,
+    }
+}
+
+// Whether a document with this finding can't be bundled.
+fn is_fault(finding: &Finding<'_>) -> bool {
+    !matches!(finding.problem, Problem::LeadsNowhere { .. })
+}
+
+fn is_true(flags: &[bool], number: usize) -> bool {
+    flags.get(number).copied().unwrap_or(false)
+}
+
+fn set(flags: &mut Vec<bool>, number: Option<usize>) {
+    let Some(number) = number else {
+        return;
+    };
+    if let Some(flag) = flags.get_mut(number) {
+        *flag = true;
+    }
+}
+
+fn push(parts: &mut Vec<Part>, part: Part) -> Result<(), AllocError> {
+    parts.push(part)?;
+    Ok(())
+}
+
+// The keyword of definitions (Draft 7 Validation, 9; 2019-09 Core, 8.2.5).
+fn definitions(draft: Draft) -> &'static str {
+    match draft {
+        Draft::Draft4 | Draft::Draft6 | Draft::Draft7 => "definitions",
+        _ => "$defs",
+    }
+}

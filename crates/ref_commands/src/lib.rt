@@ -1,0 +1,17 @@
+//! The subcommands of `patchsard` but for `serve`: `lint`, `resolve`, `bundle`, `places` and `graph`. Each opens the files of a command line
+//! in a workspace, asks it, and prints the answer. What a bundle is and when there is none is said by `ref_bundle`; here its text is made
+//! of the files' own text.
+#![tactic(auto)]
+
+mod beside;
+pub mod bundle;
+pub mod graph;
+mod left_out;
+pub mod lint;
+mod listing;
+mod message;
+mod opened;
+pub mod places;
+mod refusals;
+pub mod resolve;
+mod shown;

@@ -1,0 +1,46 @@
+//! Messages with what to do about them.
+use crate::beside::beside;
+use crate::opened::Opened;
+use ref_findings::Problem;
+use ref_messages::Message;
+use ref_workspace::Describer;
+use std::alloc::AllocError;
+
+/// The message on the finding that is listed at a place, from 0, with what to do: to name a file that is there, where the missing
+/// document is one.
+pub fn message_at<'d>(
+    rt: &HostRuntime,
+    opened: &Opened<'_>,
+    describer: &mut Describer<'_, 'd>,
+    place: usize,
+) -> Result<Option<Message<'d>>, AllocError> {
+    let Some(mut message) = describer.message(place)? else {
+        return Ok(None);
+    };
+    match help_at(rt, opened, describer, place) {
+        Ok(help) => {
+            message.help = help;
+            Ok(Some(message))
+        }
+        Err(error) => {
+            drop(message);
+            Err(error)
+        }
+    }
+}
+
+fn help_at(
+    rt: &HostRuntime,
+    opened: &Opened<'_>,
+    describer: &mut Describer<'_, '_>,
+    place: usize,
+) -> Result<Option<String>, AllocError> {
+    if let Some(finding) = describer.finding(place) {
+        if let Problem::MissingDocument { uri } = &finding.problem {
+            if let Some(path) = beside(rt, opened, finding.source, uri.as_str())? {
+                return Ok(Some(["--with ", path.as_str()].join(rt.alloc(), "")?));
+            }
+        }
+    }
+    describer.help(place)
+}

@@ -1,0 +1,150 @@
+//! The documents that a command line names.
+use clap::ArgMatches;
+use ref_command_line::options::{maps, reading_of, say_unused};
+use ref_command_line::{Reading, Stop, say, say_failures};
+use ref_error::Error;
+use ref_files::{Listed, Maps, ReadFile, list_files, list_one, read_all};
+use ref_messages::Plain;
+use ref_workspace::{Document, Workspace};
+use std::alloc::AllocError;
+
+/// A workspace with what a command line asks to be read.
+#[derive(Drop)]
+pub struct Opened<'r> {
+    /// The documents.
+    pub workspace: Workspace,
+    /// The absolute paths of the files of those that have a name of their own, by their numbers.
+    pub paths: Vec<String>,
+    /// The folders from which documents are read.
+    pub maps: Maps<'r>,
+    /// Whether a path couldn't be read, which standard error says.
+    pub has_failed: bool,
+}
+
+/// Opens the files that a command line names, and those of `--with`.
+pub fn open_given<'r>(rt: &'r HostRuntime, given: &ArgMatches<'_>) -> Result<Opened<'r>, Stop> {
+    let reading = reading_of(rt, given)?;
+    let listed = list_files(rt, &reading.selection)?;
+    say_failures(rt, &listed.failures);
+    say_unused(rt, listed.unused.as_slice());
+    open_listed(rt, &reading, listed)
+}
+
+/// Opens the file that a command line names, and those of `--with`. A file that is to be written isn't among these.
+pub fn open_file<'r>(
+    rt: &'r HostRuntime,
+    given: &ArgMatches<'_>,
+    output: Option<&str>,
+) -> Result<Opened<'r>, Stop> {
+    let reading = reading_of(rt, given)?;
+    let listed = list_one(rt, reading.file, &reading.selection, output)?;
+    say_failures(rt, &listed.failures);
+    open_listed(rt, &reading, listed)
+}
+
+// Opens the files that were listed, and retrieves what they want from maps.
+fn open_listed<'r>(
+    rt: &'r HostRuntime,
+    reading: &Reading<'_>,
+    listed: Listed,
+) -> Result<Opened<'r>, Stop> {
+    let read = read_all(rt, reading.base, listed.files)?;
+    say_failures(rt, &read.failures);
+    let has_failed = listed.failures.has_failed || read.failures.has_failed;
+    let maps = maps(rt, reading.maps.as_slice())?;
+    let mut opened = Opened {
+        workspace: Workspace::new(rt.alloc(), reading.draft),
+        paths: Vec::new(rt.alloc()),
+        maps,
+        has_failed,
+    };
+    for file in read.files {
+        opened.open(file)?;
+    }
+    opened.retrieve(rt)?;
+    Ok(opened)
+}
+
+impl Opened<'_> {
+    /// Keeps the documents to the end of the program, and returns how many are asked about.
+    pub fn keep(self) -> usize {
+        self.workspace.keep()
+    }
+
+    // Opens a file. Those that are asked about come first.
+    fn open(&mut self, file: ReadFile) -> Result<(), AllocError> {
+        let ReadFile { file, uri, text } = file;
+        let document = Document {
+            name: file.shown,
+            uri,
+            text,
+        };
+        self.paths.push(file.path)?;
+        if file.is_own {
+            self.workspace.open(document)
+        } else {
+            self.workspace.open_beside(document)
+        }
+    }
+
+    // Retrieves from maps what the files want.
+    fn retrieve(&mut self, rt: &HostRuntime) -> Result<(), AllocError> {
+        if self.maps.is_empty() {
+            return Ok(());
+        }
+        self.workspace.retrieve(rt.alloc(), &self.maps)?;
+        say_failures(rt, &self.maps.take_failures());
+        for number in self.workspace.opened()..self.workspace.documents().len() {
+            self.name(rt, number)?;
+        }
+        Ok(())
+    }
+
+    // Gives a retrieved document the name and the text of its file.
+    fn name(&mut self, rt: &HostRuntime, number: usize) -> Result<(), AllocError> {
+        let alloc = rt.alloc();
+        let Some(document) = self.workspace.documents().get(number) else {
+            return Ok(());
+        };
+        let uri = document.uri.as_str();
+        let path = match self.maps.path_of(alloc, uri)? {
+            Some(path) => path,
+            None => String::from_str(alloc, uri)?,
+        };
+        let text = match self.maps.text(alloc, uri)? {
+            Some(text) => text,
+            None => String::new(alloc),
+        };
+        say_failures(rt, &self.maps.take_failures());
+        let name = path.clone()?;
+        self.paths.push(path)?;
+        self.workspace.set_file(number, name, text);
+        Ok(())
+    }
+}
+
+/// Why the program stops where a registry of documents is refused.
+pub fn stopped(rt: &HostRuntime, error: &Error) -> Stop {
+    if error.is_memory() {
+        return Stop::Memory;
+    }
+    match error.to_string(rt.alloc()) {
+        Ok(said) => {
+            say(rt, Plain(said.as_str()));
+            Stop::Reported
+        }
+        Err(_) => Stop::Memory,
+    }
+}
+
+/// A value, or why the program stops where a registry of documents is refused.
+pub fn reported<T: Drop>(rt: &HostRuntime, made: Result<T, Error>) -> Result<T, Stop> {
+    match made {
+        Ok(made) => Ok(made),
+        Err(error) => {
+            let stop = stopped(rt, &error);
+            drop(error);
+            Err(stop)
+        }
+    }
+}

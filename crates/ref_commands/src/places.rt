@@ -1,0 +1,79 @@
+//! `patchsard places`.
+
+use crate::listing::push_document;
+use crate::opened::{open_given, reported};
+use clap::ArgMatches;
+use ref_command_line::{Console, Stop, say_of};
+use ref_index::Place;
+use ref_workspace::world::world_of;
+use ref_workspace::{Document, Workspace, World};
+use std::alloc::Global;
+
+/// Lists each subschema of files. The status is 0, 1 where a file has no places for a fault of its own, and 2 where a
+/// path couldn't be read.
+pub fn places(
+    rt: &HostRuntime,
+    console: &mut Console<'_>,
+    given: &ArgMatches<'_>,
+) -> Result<u8, Stop> {
+    let opened = open_given(rt, given)?;
+    let status = listed(rt, console, &opened.workspace);
+    let has_failed = opened.has_failed;
+    drop(opened);
+    let status = status?;
+    Ok(if has_failed { 2 } else { status })
+}
+
+fn listed(rt: &HostRuntime, console: &mut Console<'_>, workspace: &Workspace) -> Result<u8, Stop> {
+    let alloc = rt.alloc();
+    let trees = workspace.mended(alloc)?;
+    let world = reported(rt, world_of(alloc, workspace, trees.as_slice()))?;
+    let documents = workspace.documents();
+    list_all(alloc, console, documents, &world)?;
+    Ok(report_left_out(rt, documents))
+}
+
+// Prints which files were left out, and returns the status.
+fn report_left_out(rt: &HostRuntime, documents: &[Document]) -> u8 {
+    let mut status = 0;
+    for document in documents {
+        if document.value().is_none() {
+            let why = "left out, since it is no JSON: see patchsard lint";
+            say_of(rt, document.name.as_str(), why);
+            status = 1;
+        }
+    }
+    status
+}
+
+fn list_all(
+    alloc: Global,
+    console: &mut Console<'_>,
+    documents: &[Document],
+    world: &World<'_>,
+) -> Result<(), Stop> {
+    let places = world.places(alloc)?;
+    let mut rest = places.as_slice();
+    for (number, source) in world.sources.iter().enumerate() {
+        let count = count_of(rest, number);
+        if let Some(document) = documents.get(*source) {
+            let own = rest.get(..count).unwrap_or(rest);
+            push_document(alloc, &mut console.out, document, own)?;
+            console.pass()?;
+        }
+        rest = rest.get(count..).unwrap_or(&[]);
+    }
+    Ok(())
+}
+
+// How many places come first that are those of a document.
+fn count_of(places: &[Place<'_>], document: usize) -> usize {
+    let mut count: usize = 0;
+    for place in places {
+        if place.document != document {
+            break;
+        }
+        count = count.saturating_add(1);
+    }
+    count
+}

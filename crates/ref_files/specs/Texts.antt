@@ -1,0 +1,10 @@
+-- Texts that are read as JSON.
+use Rattle.std.specs.Prelude.{Option, option_map}
+use Rattle.std.specs.Result.{result_ok}
+use Rattle.serde_json.specs.Data.{Data}
+use Rattle.serde_json.specs.View.{view}
+use Rattle.ref_files.specs.declared.text.JsonText.{JsonText}
+
+-- the tree of a text that was read, where it is JSON
+abbrev pub tree_of : JsonText → Option Data
+tree_of t = option_map view (result_ok t.value)

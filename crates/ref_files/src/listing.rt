@@ -1,0 +1,487 @@
+//! The files that paths name, and those below folders.
+use crate::failure::Failures;
+use crate::path::last_name;
+use simdutf8::compat::from_utf8;
+use std::alloc::{AllocError, Global};
+use std::collections::BTreeMap;
+use std::fs::{DirEntry, Files};
+use std::io::Read;
+use std::{fmt, fs, io};
+
+/// Which files are to be read.
+#[derive(Drop)]
+pub struct Selection<'a> {
+    /// The files that are asked about, and the folders whose files are.
+    pub paths: Vec<&'a str>,
+    /// Those that references may lead into.
+    pub with: Vec<&'a str>,
+    /// Those that are left out.
+    pub excluded: Vec<&'a str>,
+    /// The path that standard input counts as.
+    pub input: &'a str,
+}
+
+/// The files that were found, and what is to be said of those that were not.
+#[derive(Drop)]
+pub struct Listed {
+    /// The files: those that are asked about, and then those that are only read, in byte order of their paths as they are shown.
+    pub files: Vec<File>,
+    /// What could not be read.
+    pub failures: Failures,
+    /// The paths by which nothing was left out, as they were given.
+    pub unused: Vec<String>,
+}
+
+/// A file that is to be read.
+#[derive(Drop)]
+pub struct File {
+    /// Its path as it is shown, which begins with what was given.
+    pub shown: String,
+    /// Its absolute path, without links.
+    pub path: String,
+    /// Its path below the folder that was given, or its name.
+    pub below: String,
+    /// Whether it is read from standard input.
+    pub is_input: bool,
+    /// Whether it is asked about, and not only read.
+    pub is_own: bool,
+}
+
+// A folder whose files are to be listed.
+#[derive(Drop)]
+struct Folder {
+    shown: String,
+    path: String,
+    below: String,
+}
+
+// What is left out.
+#[derive(Drop)]
+struct Excluded {
+    // As it was given.
+    given: String,
+    // Its path without links, where it is there.
+    path: Option<String>,
+    // Whether something was left out by it.
+    is_used: bool,
+}
+
+// The files that are to be read.
+#[derive(Drop)]
+struct Listing<'r> {
+    rt: &'r HostRuntime,
+    // By their absolute paths, so that each is listed once.
+    files: BTreeMap<String, File>,
+    folders: Vec<Folder>,
+    excluded: Vec<Excluded>,
+    // The path that standard input counts as.
+    input: String,
+    // Whether what is added is asked about, and not only read.
+    is_own: bool,
+    failures: Failures,
+}
+
+impl<'r> Listing<'r> {
+    // No files.
+    fn new(rt: &'r HostRuntime, input: &str) -> Result<Listing<'r>, AllocError> {
+        let input = String::from_str(rt.alloc(), input)?;
+        Ok(Listing {
+            rt,
+            files: BTreeMap::new(rt.alloc()),
+            folders: Vec::new(rt.alloc()),
+            excluded: Vec::new(rt.alloc()),
+            input,
+            is_own: true,
+            failures: Failures::new(rt.alloc()),
+        })
+    }
+
+    // Leaves out the file at a path, or the files below a folder. A path that isn't there leaves out nothing.
+    fn exclude(&mut self, path: &str) -> Result<(), AllocError> {
+        let given = String::from_str(self.rt.alloc(), path)?;
+        let path = match fs::canonicalize(self.rt, path) {
+            Ok(real) => Some(real.into_string()),
+            Err(error) if error.kind() == io::ErrorKind::OutOfMemory => return Err(AllocError),
+            Err(_) => None,
+        };
+        self.excluded.push(Excluded {
+            given,
+            path,
+            is_used: false,
+        })?;
+        Ok(())
+    }
+
+    // Adds the file at a path, or the files below a folder, or standard input.
+    fn add(&mut self, path: &str) -> Result<(), AllocError> {
+        if is_input(path) {
+            return self.add_input();
+        }
+        let data = match fs::metadata(self.rt, path) {
+            Ok(data) => data,
+            Err(error) => {
+                return self.failures.fail(path, error);
+            }
+        };
+        if !data.is_dir() && !data.is_file() {
+            let why = "not a regular file; a pipe is read as standard input, by -";
+            return self.failures.fail(path, why);
+        }
+        let real = match fs::canonicalize(self.rt, path) {
+            Ok(real) => real.into_string(),
+            Err(error) => {
+                return self.failures.fail(path, error);
+            }
+        };
+        if data.is_dir() {
+            return self.add_folder(path, real);
+        }
+        let below = String::from_str(self.rt.alloc(), last_name(real.as_str()))?;
+        self.add_file(path, real, below)
+    }
+
+    // Adds standard input, in place of the file whose path it counts as.
+    fn add_input(&mut self) -> Result<(), AllocError> {
+        let path = match self.input_path() {
+            Ok(path) => path,
+            Err(error) if error.kind() == io::ErrorKind::OutOfMemory => return Err(AllocError),
+            Err(error) => {
+                return self.failures.fail("-", error);
+            }
+        };
+        let alloc = self.rt.alloc();
+        let below = String::from_str(alloc, last_name(path.as_str()))?;
+        let shown = self.input.clone()?;
+        self.put(shown, path, below, true)
+    }
+
+    // The absolute path that standard input counts as: its file needn't be there, but its folder.
+    fn input_path(&self) -> io::Result<String> {
+        let input = self.input.as_str();
+        if let Ok(real) = fs::canonicalize(self.rt, input) {
+            return Ok(real.into_string());
+        }
+        let (folder, name) = input.rsplit_once('/').unwrap_or((".", input));
+        let folder = if folder.is_empty() { "/" } else { folder };
+        let real = fs::canonicalize(self.rt, folder)?.into_string();
+        Ok(joined(self.rt.alloc(), real.as_str(), name)?)
+    }
+
+    // Adds the file at a path.
+    fn add_one(&mut self, path: &str) -> Result<(), AllocError> {
+        match fs::metadata(self.rt, path) {
+            Ok(data) if data.is_dir() && !is_input(path) => {
+                let why = "a folder, where one file is asked for";
+                self.failures.fail(path, why)
+            }
+            _ => self.add(path),
+        }
+    }
+
+    // What was found.
+    fn finish(self) -> Result<Listed, AllocError> {
+        let alloc = self.rt.alloc();
+        let unused = unused_of(alloc, self.excluded)?;
+        let files = files_of(alloc, self.files)?;
+        Ok(Listed {
+            files,
+            failures: self.failures,
+            unused,
+        })
+    }
+
+    fn is_excluded(&mut self, path: &str) -> bool {
+        let mut is_excluded = false;
+        for excluded in &mut self.excluded {
+            if excluded.has(path) {
+                excluded.is_used = true;
+                is_excluded = true;
+            }
+        }
+        is_excluded
+    }
+
+    fn add_file(&mut self, shown: &str, path: String, below: String) -> Result<(), AllocError> {
+        if self.is_excluded(path.as_str()) {
+            return Ok(());
+        }
+        let shown = String::from_str(self.rt.alloc(), shown)?;
+        self.put(shown, path, below, false)
+    }
+
+    // Adds a file. One that is there already has its path below the other folder, and its text is that of
+    // standard input where that counts as it.
+    fn put(
+        &mut self,
+        shown: String,
+        path: String,
+        below: String,
+        is_input: bool,
+    ) -> Result<(), AllocError> {
+        let is_own = self.is_own;
+        if let Some(file) = self.files.get_mut(path.as_str()) {
+            file.is_input |= is_input;
+            if file.is_own && !is_own {
+                file.below = below;
+            }
+            return Ok(());
+        }
+        let key = path.clone()?;
+        self.files.insert(
+            key,
+            File {
+                shown,
+                path,
+                below,
+                is_input,
+                is_own,
+            },
+        )?;
+        Ok(())
+    }
+
+    // Adds the files below a folder.
+    fn add_folder(&mut self, shown: &str, path: String) -> Result<(), AllocError> {
+        let alloc = self.rt.alloc();
+        let shown = String::from_str(alloc, without_slash(shown))?;
+        self.push_folder(shown, path, String::new(alloc))?;
+        for _ in 0..u64::MAX {
+            let Some(folder) = self.folders.pop() else {
+                break;
+            };
+            self.list(&folder)?;
+        }
+        Ok(())
+    }
+
+    fn push_folder(
+        &mut self,
+        shown: String,
+        path: String,
+        below: String,
+    ) -> Result<(), AllocError> {
+        if self.is_excluded(path.as_str()) {
+            return Ok(());
+        }
+        self.folders.push(Folder { shown, path, below })?;
+        Ok(())
+    }
+
+    fn list(&mut self, folder: &Folder) -> Result<(), AllocError> {
+        let mut has_other_names = false;
+        match fs::read_dir(self.rt, folder.path.as_str()) {
+            Ok(entries) => {
+                for entry in entries {
+                    match entry {
+                        Ok(entry) => self.take(folder, &entry)?,
+                        Err(error) if error.kind() == io::ErrorKind::OutOfMemory => {
+                            return Err(AllocError);
+                        }
+                        Err(error) if error.kind() == io::ErrorKind::InvalidFilename => {
+                            has_other_names = true;
+                        }
+                        Err(error) => self.failures.fail(folder.shown.as_str(), error)?,
+                    }
+                }
+            }
+            Err(error) => self.failures.fail(folder.shown.as_str(), error)?,
+        }
+        if has_other_names {
+            self.fail_other_names(folder)?;
+        }
+        Ok(())
+    }
+
+    // Adds the names in a folder that are no UTF-8.
+    fn fail_other_names(&mut self, folder: &Folder) -> Result<(), AllocError> {
+        let shown = folder.shown.as_str();
+        let Ok(mut names) = self.rt.open_dir(folder.path.as_str()) else {
+            return self.failures.fail(shown, "has a name that is not UTF-8");
+        };
+        self.failures.has_failed = true;
+        let mut buffer = [0u8; 4096];
+        for _ in 0..u64::MAX {
+            match names.read(&mut buffer) {
+                Ok(0) | Err(_) => break,
+                Ok(count) => {
+                    let names = buffer.get(..count).unwrap_or(&[]);
+                    fail_names(self.rt.alloc(), &mut self.failures, shown, names)?;
+                }
+            }
+        }
+        Ok(())
+    }
+
+    // Takes what is in a folder.
+    fn take(
+        &mut self,
+        folder: &Folder,
+        entry: &DirEntry<HostRuntime, Global>,
+    ) -> Result<(), AllocError> {
+        let alloc = self.rt.alloc();
+        let name = entry.file_name();
+        let shown = joined(alloc, folder.shown.as_str(), name)?;
+        let kind = match entry.file_type() {
+            Ok(kind) => kind,
+            Err(error) => return self.failures.fail(shown.as_str(), error),
+        };
+        if kind.is_dir() {
+            if name.starts_with('.') {
+                return Ok(());
+            }
+            let (path, below) = place_in(alloc, folder, name)?;
+            return self.push_folder(shown, path, below);
+        }
+        if !name.ends_with(".json") {
+            return Ok(());
+        }
+        if kind.is_file() {
+            let (path, below) = place_in(alloc, folder, name)?;
+            return self.add_file(shown.as_str(), path, below);
+        }
+        if kind.is_symlink() {
+            let why = "a link, which is not followed; name it to read it";
+            self.failures.note(shown.as_str(), why)
+        } else {
+            self.failures.fail(shown.as_str(), "not a regular file")
+        }
+    }
+
+    // Adds the files at paths, and those below folders.
+    fn add_all(&mut self, paths: &[&str]) -> Result<(), AllocError> {
+        for path in paths {
+            self.add(*path)?;
+        }
+        Ok(())
+    }
+}
+
+/// The files that are asked about, and after them those that are only read. A path that could not be read is among the failures, and
+/// one that leaves out nothing among those that are unused. Fails only if out of memory.
+pub fn list_files(rt: &HostRuntime, selection: &Selection<'_>) -> Result<Listed, AllocError> {
+    let mut listing = Listing::new(rt, selection.input)?;
+    for path in &selection.excluded {
+        listing.exclude(*path)?;
+    }
+    listing.add_all(selection.paths.as_slice())?;
+    listing.is_own = false;
+    listing.add_all(selection.with.as_slice())?;
+    listing.finish()
+}
+
+/// The one file that is asked about, and after it those that are only read, without one that is to be written. Where it is among these,
+/// it has its path below their folder. Fails only if out of memory.
+pub fn list_one(
+    rt: &HostRuntime,
+    file: &str,
+    selection: &Selection<'_>,
+    output: Option<&str>,
+) -> Result<Listed, AllocError> {
+    let mut listing = Listing::new(rt, selection.input)?;
+    listing.add_one(file)?;
+    listing.is_own = false;
+    if let Some(path) = output {
+        listing.exclude(path)?;
+    }
+    listing.add_all(selection.with.as_slice())?;
+    listing.finish()
+}
+
+// Whether a path means standard input.
+fn is_input(path: &str) -> bool {
+    matches!(path, "-" | "/dev/stdin" | "/dev/fd/0" | "/proc/self/fd/0")
+}
+
+// Adds those of these names, each ended by a NUL, that are no UTF-8.
+fn fail_names(
+    alloc: Global,
+    failures: &mut Failures,
+    folder: &str,
+    names: &[u8],
+) -> Result<(), AllocError> {
+    for name in names.split(|byte| *byte == 0) {
+        if from_utf8(name).is_err() {
+            let path = format!(in alloc; "{folder}/{}", Escaped(name))?;
+            failures.fail(path.as_str(), "a name that is not UTF-8")?;
+        }
+    }
+    Ok(())
+}
+
+// The name of a file that is no UTF-8: what isn't a letter, a digit or another mark of ASCII as `\xff`.
+#[derive(Clone, Copy, Drop)]
+struct Escaped<'t>(&'t [u8]);
+
+impl fmt::Display for Escaped<'_> {
+    fn fmt<W: fmt::Write>(&self, f: &mut fmt::Formatter<W>) -> fmt::Result {
+        for byte in self.0 {
+            if *byte >= b' ' && *byte < 0x7f {
+                f.write_char(*byte as char)?;
+            } else {
+                write!(f, "\\x{:02x}", *byte)?;
+            }
+        }
+        Ok(())
+    }
+}
+
+// The files in byte order of their paths as they are shown, those that are asked about first.
+fn files_of(alloc: Global, found: BTreeMap<String, File>) -> Result<Vec<File>, AllocError> {
+    let mut files = Vec::new(alloc);
+    for (_, file) in found {
+        files.push(file)?;
+    }
+    files.sort_unstable_by(|file, other| {
+        (!file.is_own, file.shown.as_str()).cmp(&(!other.is_own, other.shown.as_str()))
+    });
+    Ok(files)
+}
+
+// The paths by which nothing was left out.
+fn unused_of(alloc: Global, all: Vec<Excluded>) -> Result<Vec<String>, AllocError> {
+    let mut unused = Vec::new(alloc);
+    for excluded in all {
+        if !excluded.is_used {
+            unused.push(excluded.given)?;
+        }
+    }
+    Ok(unused)
+}
+
+impl Excluded {
+    // Whether it is the file at a path, or a folder that has it below.
+    fn has(&self, path: &str) -> bool {
+        let Some(own) = &self.path else {
+            return false;
+        };
+        match path.strip_prefix(own.as_str()) {
+            Some(rest) => rest.is_empty() || rest.starts_with('/'),
+            None => false,
+        }
+    }
+}
+
+fn without_slash(path: &str) -> &str {
+    let short = path.trim_end_matches('/');
+    if short.is_empty() { path } else { short }
+}
+
+// The path of a name in a folder, and its path below the folder that was given.
+fn place_in(alloc: Global, folder: &Folder, name: &str) -> Result<(String, String), AllocError> {
+    let path = joined(alloc, folder.path.as_str(), name)?;
+    let below = joined(alloc, folder.below.as_str(), name)?;
+    Ok((path, below))
+}
+
+// The path of a name in a folder; what is in `.` is shown by its name.
+fn joined(alloc: Global, folder: &str, name: &str) -> Result<String, AllocError> {
+    if folder.is_empty() || folder == "." {
+        return String::from_str(alloc, name);
+    }
+    let mut path = String::from_str(alloc, folder)?;
+    if !folder.ends_with('/') {
+        path.push('/')?;
+    }
+    path.push_str(name)?;
+    Ok(path)
+}

@@ -1,0 +1,394 @@
+//! Findings as messages.
+use crate::documents::{meant_document, other_uri};
+use crate::resources::Resources;
+use crate::rules::code_of;
+use crate::spots::{Spots, first_of, spots_of};
+use crate::suggestions::suggestion;
+use crate::workspace::Workspace;
+use ref_draft::Draft;
+use ref_error::Error;
+use ref_files::Fault;
+use ref_findings::{Bearer, Finding, Level as Severity, Problem};
+use ref_messages::{Level, Message, Other, Suggester};
+use ref_parts::pointer_of;
+use ref_uri::Uri;
+use std::alloc::{AllocError, Global};
+
+// How many steps suggestions may take in all.
+const STEPS: usize = 3_200_000;
+
+/// The messages on findings, in the order in which they are listed: by file, line and column.
+#[derive(Drop)]
+pub struct Describer<'l, 'd> {
+    alloc: Global,
+    workspace: &'d Workspace,
+    list: &'l [Finding<'d>],
+    // The file, the line, the column and the number of each that is listed.
+    order: Vec<(usize, usize, usize, usize)>,
+    spots: Spots<'d>,
+    // What references may mean, once something is to be suggested.
+    resources: Option<Resources<'d>>,
+    suggester: Suggester,
+}
+
+impl<'l, 'd> Describer<'l, 'd> {
+    /// The messages on findings in these files, with those on references that weren't checked where they are asked for.
+    pub fn new(
+        alloc: Global,
+        workspace: &'d Workspace,
+        list: &'l [Finding<'d>],
+        is_verbose: bool,
+    ) -> Result<Describer<'l, 'd>, AllocError> {
+        let spots = spots_of(alloc, workspace.documents(), list)?;
+        let order = order_of(alloc, workspace, &spots, list, is_verbose)?;
+        Ok(Describer {
+            alloc,
+            workspace,
+            list,
+            order,
+            spots,
+            resources: None,
+            suggester: Suggester::new(STEPS),
+        })
+    }
+
+    /// How many findings are listed.
+    pub fn len(&self) -> usize {
+        self.order.len()
+    }
+
+    /// The finding that is listed at a place, from 0.
+    pub fn finding(&self, place: usize) -> Option<&'l Finding<'d>> {
+        let list = self.list;
+        list.get(self.order.get(place)?.3)
+    }
+
+    /// The message on the finding that is listed at a place, from 0, without what to do.
+    pub fn message(&mut self, place: usize) -> Result<Option<Message<'d>>, AllocError> {
+        let Some(listed) = self.order.get(place).copied() else {
+            return Ok(None);
+        };
+        match self.finding(place) {
+            Some(finding) => Ok(Some(self.message_on(listed, finding)?)),
+            None => Ok(None),
+        }
+    }
+
+    // The message on a finding, where it is listed so.
+    fn message_on(
+        &mut self,
+        (_, line, column, number): (usize, usize, usize, usize),
+        finding: &Finding<'d>,
+    ) -> Result<Message<'d>, AllocError> {
+        let mut message = Message {
+            file: self.workspace.name(finding.source),
+            line,
+            column,
+            pointer: String::new(self.alloc),
+            level: level_of(&finding.problem),
+            code: code_of(&finding.problem),
+            text: String::new(self.alloc),
+            keyword: finding.keyword,
+            reference: finding.text,
+            resolved: None,
+            suggestion: None,
+            help: None,
+            first: None,
+        };
+        match self.complete(&mut message, number, finding) {
+            Ok(()) => Ok(message),
+            Err(error) => {
+                drop(message);
+                Err(error)
+            }
+        }
+    }
+
+    // Adds to a message what takes memory.
+    fn complete(
+        &mut self,
+        message: &mut Message<'d>,
+        number: usize,
+        finding: &Finding<'d>,
+    ) -> Result<(), AllocError> {
+        message.pointer = pointer_of(self.alloc, finding.path.as_slice())?;
+        message.text = self.text(finding)?;
+        message.resolved = resolved(self.alloc, finding)?;
+        message.suggestion = self.suggestion(finding)?;
+        message.first = self.first(number, &finding.problem)?;
+        Ok(())
+    }
+
+    fn text(&self, finding: &Finding<'_>) -> Result<String, AllocError> {
+        let alloc = self.alloc;
+        match &finding.problem {
+            Problem::NotJson => self.not_json(finding.source),
+            Problem::NotChecked => description_text(alloc, finding.keyword, finding.text),
+            Problem::NotAText => {
+                let keyword = finding.keyword.unwrap_or("");
+                ["The value of ", keyword, " is no text"].join(alloc, "")
+            }
+            Problem::RecursiveElsewhere => {
+                String::from_str(alloc, "A $recursiveRef is to be '#', in Draft 2019-09")
+            }
+            Problem::NamesNothing => nameless_text(alloc, finding.text),
+            Problem::InvalidUri(error) => error.to_string(alloc),
+            Problem::LeadsNowhere { error, .. } => error.to_string(alloc),
+            Problem::MissingDocument { uri } => {
+                ["Document '", uri.as_str(), "' is not among the given files"].join(alloc, "")
+            }
+            Problem::Unchecked { uri } => [
+                "Meta-schema '",
+                uri.as_str(),
+                "' is not among the given files: the fragment is not checked",
+            ]
+            .join(alloc, ""),
+            Problem::UnknownDialect { uri } => [
+                "Meta-schema '",
+                uri.as_str(),
+                "' is not among the given files: read as Draft 2020-12",
+            ]
+            .join(alloc, ""),
+            Problem::DuplicateIdentifier { uri, .. } => {
+                ["Two schemas have the identifier '", uri.as_str(), "'"].join(alloc, "")
+            }
+            Problem::DuplicateAnchor { uri, .. } => anchor_text(alloc, uri, finding.text),
+            Problem::GuessedDraft { draft, .. } => referred_text(alloc, self.workspace.draft(), *draft),
+            Problem::ListOfItems => String::from_str(
+                alloc,
+                "The file names no draft and is read as Draft 2020-12, where items is one schema, not a list",
+            ),
+        }
+    }
+
+    fn not_json(&self, source: usize) -> Result<String, AllocError> {
+        let why = match fault_of(self.workspace, source) {
+            Some(fault) => fault.text.as_str(),
+            None => "",
+        };
+        String::from_str(self.alloc, why)
+    }
+
+    fn suggestion(&mut self, finding: &Finding<'_>) -> Result<Option<String>, AllocError> {
+        match &finding.problem {
+            Problem::LeadsNowhere { uri, error } => self.suggestion_in(uri, error),
+            Problem::MissingDocument { uri } => self.suggested_document(finding, uri),
+            _ => Ok(None),
+        }
+    }
+
+    // Makes what references may mean, where it isn't made yet.
+    fn prepare(&mut self) -> Result<(), AllocError> {
+        if self.resources.is_none() {
+            self.resources = Some(Resources::of(self.alloc, self.workspace)?);
+        }
+        Ok(())
+    }
+
+    fn suggestion_in(&mut self, uri: &Uri, error: &Error) -> Result<Option<String>, AllocError> {
+        self.prepare()?;
+        let Some(resources) = &self.resources else {
+            return Ok(None);
+        };
+        match resources.get(uri.as_str()) {
+            Some(resource) => suggestion(self.alloc, &mut self.suggester, resource, error),
+            None => Ok(None),
+        }
+    }
+
+    // What is meant by the text of a finding, where no document has its URI.
+    fn suggested_document(
+        &mut self,
+        finding: &Finding<'_>,
+        uri: &Uri,
+    ) -> Result<Option<String>, AllocError> {
+        self.prepare()?;
+        let (Some(resources), Some(text)) = (&self.resources, finding.text) else {
+            return Ok(None);
+        };
+        meant_document(
+            self.alloc,
+            &mut self.suggester,
+            (self.workspace, resources),
+            finding.source,
+            (text, uri.as_str()),
+        )
+    }
+
+    /// What to do about the finding that is listed at a place: where a document is missing, and another one has its name, or where a draft is
+    /// guessed.
+    pub fn help(&mut self, place: usize) -> Result<Option<String>, AllocError> {
+        match self.finding(place) {
+            Some(finding) => self.help_on(finding),
+            None => Ok(None),
+        }
+    }
+
+    fn help_on(&mut self, finding: &Finding<'_>) -> Result<Option<String>, AllocError> {
+        match &finding.problem {
+            Problem::MissingDocument { uri } => {
+                other_uri(
+                    self.alloc,
+                    &mut self.suggester,
+                    self.workspace,
+                    uri.as_str(),
+                )
+            }
+            Problem::GuessedDraft { draft, .. } => {
+                let help = ["--draft ", draft.name(), ", or a $schema in the file"];
+                Ok(Some(help.join(self.alloc, "")?))
+            }
+            Problem::ListOfItems => {
+                let help = "--draft with an earlier draft, or a $schema in the file";
+                Ok(Some(String::from_str(self.alloc, help)?))
+            }
+            _ => Ok(None),
+        }
+    }
+
+    fn first(&self, number: usize, problem: &Problem<'_>) -> Result<Option<Other>, AllocError> {
+        match first_of(problem) {
+            Some(bearer) => Ok(Some(self.other(number, bearer)?)),
+            None => Ok(None),
+        }
+    }
+
+    fn other(&self, number: usize, bearer: &Bearer<'_>) -> Result<Other, AllocError> {
+        let (line, column) = match self.spots.first(number, bearer) {
+            Some(position) => (position.line(), position.column()),
+            None => (0, 0),
+        };
+        let file = String::from_str(self.alloc, self.workspace.name(bearer.source))?;
+        let pointer = pointer_of(self.alloc, bearer.path.as_slice())?;
+        Ok(Other {
+            file,
+            line,
+            column,
+            pointer,
+        })
+    }
+}
+
+// The line and the column of the finding with a number.
+fn position_of(
+    workspace: &Workspace,
+    spots: &Spots<'_>,
+    number: usize,
+    finding: &Finding<'_>,
+) -> (usize, usize) {
+    if let Some(fault) = fault_of(workspace, finding.source) {
+        return (fault.line, fault.column);
+    }
+    match spots.own(number, finding) {
+        Some(position) => (position.line(), position.column()),
+        None => (1, 1),
+    }
+}
+
+// Why the text of a file is not JSON, and where.
+fn fault_of(workspace: &Workspace, source: usize) -> Option<&Fault> {
+    workspace.documents().get(source)?.text.fault()
+}
+
+// The findings that are listed, each by its file, line, column and number.
+fn order_of(
+    alloc: Global,
+    workspace: &Workspace,
+    spots: &Spots<'_>,
+    list: &[Finding<'_>],
+    is_verbose: bool,
+) -> Result<Vec<(usize, usize, usize, usize)>, AllocError> {
+    let mut order = Vec::new(alloc);
+    for (number, finding) in list.iter().enumerate() {
+        if is_verbose || !matches!(finding.problem, Problem::Unchecked { .. }) {
+            let (line, column) = position_of(workspace, spots, number, finding);
+            order.push((finding.source, line, column, number))?;
+        }
+    }
+    order.sort_unstable();
+    Ok(order)
+}
+
+fn level_of(problem: &Problem<'_>) -> Level {
+    match problem.level() {
+        Severity::Error => Level::Error,
+        Severity::Warning => Level::Warning,
+        Severity::Note => Level::Note,
+    }
+}
+
+// That a file is read by a draft that is guessed, and a schema of another one refers to it.
+fn referred_text(alloc: Global, guessed: Draft, draft: Draft) -> Result<String, AllocError> {
+    [
+        "The file names no draft and is read as Draft ",
+        guessed.name(),
+        ", but a schema of Draft ",
+        draft.name(),
+        " refers to it",
+    ]
+    .join(alloc, "")
+}
+
+// That a file is a description, by the keyword at its root and its version.
+fn description_text(
+    alloc: Global,
+    keyword: Option<&str>,
+    version: Option<&str>,
+) -> Result<String, AllocError> {
+    let name = match keyword {
+        Some("openapi") => "OpenAPI",
+        Some("swagger") => "Swagger",
+        _ => "AsyncAPI",
+    };
+    [
+        "This is a description of ",
+        name,
+        " ",
+        version.unwrap_or(""),
+        ": only its references in JSON Schema places were checked",
+    ]
+    .join(alloc, "")
+}
+
+// That what follows a `#` names nothing.
+fn nameless_text(alloc: Global, text: Option<&str>) -> Result<String, AllocError> {
+    let name = text.unwrap_or("").trim_start_matches('#');
+    [
+        "'#",
+        name,
+        "' names nothing: what begins with a slash is a pointer",
+    ]
+    .join(alloc, "")
+}
+
+fn anchor_text<'x>(
+    alloc: Global,
+    uri: &'x Uri,
+    name: Option<&'x str>,
+) -> Result<String, AllocError> {
+    let name = name.unwrap_or("").trim_start_matches('#');
+    [
+        "Two schemas of '",
+        uri.as_str(),
+        "' have the anchor '",
+        name,
+        "'",
+    ]
+    .join(alloc, "")
+}
+
+// What the text under a keyword was resolved to, where nothing else says it.
+fn resolved(alloc: Global, finding: &Finding<'_>) -> Result<Option<String>, AllocError> {
+    let uri = match &finding.problem {
+        Problem::MissingDocument { uri } => uri,
+        Problem::LeadsNowhere { uri, .. } => uri,
+        Problem::Unchecked { uri } => uri,
+        _ => return Ok(None),
+    };
+    let mut text = String::from_str(alloc, uri.as_str())?;
+    if let Some((_, fragment)) = finding.text.unwrap_or("").split_once('#') {
+        text.push('#')?;
+        text.push_str(fragment)?;
+    }
+    Ok(Some(text))
+}

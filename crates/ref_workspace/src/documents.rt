@@ -1,0 +1,154 @@
+//! What may be meant by a reference into a document that isn't there.
+use crate::resources::Resources;
+use crate::workspace::Workspace;
+use ref_draft::ResourceRef;
+use ref_files::{folder_of, last_name, names_of};
+use ref_messages::Suggester;
+use ref_uri::UriFault;
+use ref_uri::uri::resolve_against;
+use std::alloc::{AllocError, Global};
+
+/// What may be meant by the text of a reference from a document that was resolved to a URI that none has: a place of the document itself, where the `#`
+/// was forgotten; a document whose URI ends in `.json`; or one whose name is a letter or two away, or has other cases.
+pub fn meant_document(
+    alloc: Global,
+    suggester: &mut Suggester,
+    (workspace, resources): (&Workspace, &Resources<'_>),
+    source: usize,
+    (text, uri): (&str, &str),
+) -> Result<Option<String>, AllocError> {
+    suggester.begin();
+    if let Some(meant) = meant_fragment(alloc, workspace, resources, source, text)? {
+        return Ok(Some(meant));
+    }
+    let (front, hash, fragment) = match text.split_once('#') {
+        Some((front, fragment)) => (front, "#", fragment),
+        None => (text, "", ""),
+    };
+    let longer = [uri, ".json"].join(alloc, "")?;
+    if resources.get(longer.as_str()).is_some() {
+        return Ok(Some([front, ".json", hash, fragment].join(alloc, "")?));
+    }
+    let Some(close) = resources.close_uri(alloc, suggester, uri)? else {
+        return Ok(None);
+    };
+    let (wanted, name) = tails(uri, close);
+    let (folder, name) = match front.strip_suffix(wanted) {
+        Some(folder) => (folder, name),
+        None => ("", close),
+    };
+    Ok(Some([folder, name, hash, fragment].join(alloc, "")?))
+}
+
+// A pointer or the name of an anchor in the document itself whose `#` was forgotten.
+fn meant_fragment(
+    alloc: Global,
+    workspace: &Workspace,
+    resources: &Resources<'_>,
+    source: usize,
+    text: &str,
+) -> Result<Option<String>, AllocError> {
+    if text.is_empty() || text.contains('#') {
+        return Ok(None);
+    }
+    let slash = if text.starts_with('/') { "" } else { "/" };
+    let pointer = [slash, text].join(alloc, "")?;
+    if let Some(root) = workspace.value(source) {
+        if root.pointer(pointer.as_str()).is_some() {
+            return Ok(Some(["#", pointer.as_str()].join(alloc, "")?));
+        }
+    }
+    let Some(uri) = workspace.uri(source) else {
+        return Ok(None);
+    };
+    match resources.get(uri.as_str()) {
+        Some(resource) if resource.has_name(text) => Ok(Some(["#", text].join(alloc, "")?)),
+        _ => Ok(None),
+    }
+}
+
+/// What follows the slashes up to which two URIs are the same.
+pub fn tails<'a, 'b>(uri: &'a str, other: &'b str) -> (&'a str, &'b str) {
+    let mut start: usize = 0;
+    for (place, (byte, there)) in uri.bytes().zip(other.bytes()).enumerate() {
+        if byte != there {
+            break;
+        }
+        if byte == b'/' {
+            start = place.saturating_add(1);
+        }
+    }
+    (
+        uri.get(start..).unwrap_or(uri),
+        other.get(start..).unwrap_or(other),
+    )
+}
+
+/// What to do where a file has the name that a missing URI ends with, and not the URI.
+pub fn other_uri(
+    alloc: Global,
+    suggester: &mut Suggester,
+    workspace: &Workspace,
+    uri: &str,
+) -> Result<Option<String>, AllocError> {
+    let (folder_uri, name) = uri.rsplit_once('/').unwrap_or(("", uri));
+    let Some(names) = names_of(alloc, name)? else {
+        return Ok(None);
+    };
+    let Some(name) = names.first() else {
+        return Ok(None);
+    };
+    if uri.starts_with("file:") {
+        return Ok(None);
+    }
+    for (number, document) in workspace.documents().iter().enumerate() {
+        if !suggester.step() {
+            break;
+        }
+        let shown = document.name.as_str();
+        if last_name(shown) == name.as_str() && host_of(document.uri.as_str()) != host_of(uri) {
+            let folder = folder_of(shown);
+            let folder = if folder.is_empty() { "." } else { folder };
+            let (what, own) = own_uri(alloc, workspace, number)?;
+            return Ok(Some(format!(in alloc;
+                "the file {shown} has the {what} {own}: try --base {folder_uri} or --map {folder_uri}={folder}"
+            )?));
+        }
+    }
+    Ok(None)
+}
+
+// What is before the third slash of a URI: its scheme and its host.
+fn host_of(uri: &str) -> &str {
+    let mut slashes: usize = 0;
+    for (place, byte) in uri.bytes().enumerate() {
+        if byte == b'/' {
+            slashes = slashes.saturating_add(1);
+        }
+        if slashes == 3 {
+            return uri.get(..place).unwrap_or(uri);
+        }
+    }
+    uri
+}
+
+// The URI of the document with a number: by its identifier, where it has one.
+fn own_uri(
+    alloc: Global,
+    workspace: &Workspace,
+    number: usize,
+) -> Result<(&'static str, String), AllocError> {
+    let Some(uri) = workspace.uri(number) else {
+        return Ok(("URI", String::new(alloc)));
+    };
+    if let Some(value) = workspace.value(number) {
+        if let Some(id) = ResourceRef::new(value, workspace.draft().detect(value)).id() {
+            match resolve_against(alloc, uri.borrow(), id) {
+                Ok(own) => return Ok(("identifier", String::from_str(alloc, own.as_str())?)),
+                Err(UriFault::Memory(error)) => return Err(error),
+                Err(UriFault::Invalid(error)) => drop(error),
+            }
+        }
+    }
+    Ok(("URI", String::from_str(alloc, uri.as_str())?))
+}

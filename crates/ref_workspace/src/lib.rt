@@ -1,0 +1,23 @@
+//! The JSON documents that are open, and what is asked of them: what is wrong with their references, and how that is said; where a
+//! reference leads; their places; and which document refers to which. Nothing here reads a file or prints: a document is opened with
+//! a name, a URI and a text, and answers are values.
+#![tactic(auto)]
+
+mod describe;
+mod documents;
+mod edges;
+pub mod follow;
+pub mod pointer;
+mod resources;
+mod rules;
+mod sources;
+mod spots;
+mod suggestions;
+mod workspace;
+pub mod world;
+
+pub use describe::Describer;
+pub use edges::graph_of;
+pub use rules::RULES;
+pub use workspace::{Document, Workspace};
+pub use world::World;

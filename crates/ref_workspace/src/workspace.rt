@@ -1,0 +1,294 @@
+//! The documents that are open.
+ghost use Rattle.std.specs.Prelude.{◌≡◌, ◌≤◌, [], drop, map, option_and_then, option_map, slice_get, string_bytes, take, vec_len, OnErr, OnOk};
+ghost use Rattle.serde_json.specs.View.{view};
+ghost use Rattle.ref_files.specs.Texts.{tree_of};
+ghost use Rattle.ref_findings.specs.Held.{held_source};
+ghost use Rattle.ref_workspace.specs.Workspace as spec;
+
+use crate::sources::{faulty_of, sources_of};
+use ref_draft::Draft;
+use ref_error::Retrieve;
+use ref_files::JsonText;
+use ref_findings::{Held, gather};
+use ref_uri::Uri;
+use serde_json::{Map, Value};
+use std::alloc::{AllocError, Global};
+
+/// A document that is open.
+#[derive(Drop)]
+pub struct Document {
+    /// What it is called in answers, as the path of its file.
+    pub name: String,
+    /// The URI that it is under, in normal form and without a fragment, as [`from_str`](ref_uri::uri::from_str) gives it.
+    pub uri: Uri,
+    /// Its text, and the value that it is. One that was retrieved may have no text.
+    pub text: JsonText,
+}
+
+impl Document {
+    ghost use Rattle.ref_workspace.specs.Open.{document_of};
+
+    /// Its value, where it is JSON.
+    pub fn value(&self) -> Option<&Value>
+        ensures value { option_map (λ v. view v.now) result ≡ (document_of self.now).tree }
+    {
+        self.text.value()
+    }
+}
+
+/// Documents that are open: first those that are asked about, then those that references may lead into, and then what was
+/// retrieved for them. They are numbered in this order, from 0.
+#[derive(Drop)]
+pub struct Workspace {
+    // The draft of documents that name none.
+    draft: Draft,
+    // Those that are open, and after them those that were retrieved and have a text that means no URI.
+    documents: Vec<Document>,
+    // How many are asked about.
+    asked: usize,
+    // How many are open.
+    opened: usize,
+    // What else was retrieved.
+    held: Vec<Held>,
+    // What counts in place of a document that is no JSON.
+    empty: Value,
+    ghost ordered: { (asked ≤ opened) × (opened ≤ vec_len documents) },
+}
+
+impl Workspace {
+    ghost use Rattle.ref_workspace.specs.Open.{document_of, workspace_of};
+
+    /// One without documents. Takes no memory.
+    pub fn new(alloc: Global, draft: Draft) -> Workspace
+        ensures value { workspace_of result
+            ≡ record { draft = draft; documents = []; asked = 0; opened = 0; held = [] } }
+    {
+        Workspace {
+            draft,
+            documents: Vec::new(alloc),
+            asked: 0,
+            opened: 0,
+            held: Vec::new(alloc),
+            empty: Value::Object(Map::new(alloc)),
+        }
+    }
+
+    /// Opens a document that is asked about, after the others that are. Fails only if out of memory, and then nothing is changed.
+    pub fn open(&mut self, document: Document) -> Result<(), AllocError>
+        ensures ok { OnOk result
+            (workspace_of self.new
+            ≡ spec.with_asked (document_of document) (workspace_of self.old)) }
+        ensures err { OnErr result (workspace_of self.new ≡ workspace_of self.old) }
+    {
+        self.documents.insert(self.asked, document)?;
+        self.asked += 1;
+        self.opened += 1;
+        Ok(())
+    }
+
+    /// Opens a document that references may lead into, after all that are open. Fails only if out of memory, and then nothing is changed.
+    pub fn open_beside(&mut self, document: Document) -> Result<(), AllocError>
+        ensures ok { OnOk result
+            (workspace_of self.new
+            ≡ spec.with_beside (document_of document) (workspace_of self.old)) }
+        ensures err { OnErr result (workspace_of self.new ≡ workspace_of self.old) }
+    {
+        self.documents.insert(self.opened, document)?;
+        self.opened += 1;
+        Ok(())
+    }
+
+    /// Opens another text in place of that of the document with a number, where there is one.
+    pub fn replace(&mut self, number: usize, text: JsonText)
+        ensures value { workspace_of self.new
+            ≡ spec.with_text number (string_bytes text.text) (tree_of text) (workspace_of self.old) }
+    {
+        if let Some(document) = self.documents.get_mut(number) {
+            document.text = text;
+        }
+    }
+
+    /// Closes the document with a number, where one is open. Those after it get the numbers before their own.
+    pub fn close(&mut self, number: usize)
+        ensures value { workspace_of self.new ≡ spec.without number (workspace_of self.old) }
+    {
+        if number >= self.opened {
+            return;
+        }
+        self.opened -= 1;
+        if number < self.asked {
+            self.asked -= 1;
+        }
+        let closed = self.documents.remove(number);
+        drop(closed);
+    }
+
+    /// Retrieves what the open documents want, in place of what was retrieved before. Those retrieved documents that have a text that
+    /// means no URI come first: they are called by their URIs, and have no text yet. Fails only if out of memory.
+    pub fn retrieve<R: Retrieve>(
+        &mut self,
+        alloc: Global,
+        retriever: &R,
+    ) -> Result<(), AllocError> {
+        self.documents.truncate(self.opened);
+        self.held.clear();
+        let sources = sources_of(alloc, self.documents.as_slice())?;
+        let held = gather(alloc, self.draft, sources.as_slice(), retriever, usize::MAX)?;
+        drop(sources);
+        let faulty = faulty_of(alloc, self.draft, held.as_slice())?;
+        for (document, is_faulty) in held.into_iter().zip(faulty.into_iter()) {
+            if is_faulty {
+                push(&mut self.documents, retrieved(alloc, document)?)?;
+            } else {
+                push_held(&mut self.held, document)?;
+            }
+        }
+        Ok(())
+    }
+
+    /// Gives a name and a text to the document with a number, which was retrieved. Its value stays.
+    pub fn set_file(&mut self, number: usize, name: String, text: String) {
+        if let Some(document) = self.documents.get_mut(number) {
+            document.name = name;
+            document.text.text = text;
+        }
+    }
+
+    /// The documents that have a name and a text of their own: those that are open, and after them what was retrieved and has a text
+    /// that means no URI.
+    pub fn documents(&self) -> &[Document]
+        ensures value { map document_of result.now ≡ (workspace_of self.now).documents }
+    {
+        self.documents.as_slice()
+    }
+
+    /// Those documents that are asked about.
+    pub fn asked_about(&self) -> &[Document]
+        ensures value { map document_of result.now
+            ≡ take (workspace_of self.now).asked (workspace_of self.now).documents }
+    {
+        &self.documents[..self.asked]
+    }
+
+    /// The other documents that have a name and a text of their own.
+    pub fn not_asked(&self) -> &[Document]
+        ensures value { map document_of result.now
+            ≡ drop (workspace_of self.now).asked (workspace_of self.now).documents }
+    {
+        &self.documents[self.asked..]
+    }
+
+    /// How many documents are asked about.
+    pub fn asked(&self) -> usize
+        ensures value { result ≡ (workspace_of self.now).asked }
+    {
+        self.asked
+    }
+
+    /// How many documents are open.
+    pub fn opened(&self) -> usize
+        ensures value { result ≡ (workspace_of self.now).opened }
+    {
+        self.opened
+    }
+
+    /// What was retrieved and has no text.
+    pub(crate) fn held_documents(&self) -> &[Held]
+        ensures value { map held_source result.now ≡ (workspace_of self.now).held }
+    {
+        self.held.as_slice()
+    }
+
+    /// The draft of documents that name none.
+    pub fn draft(&self) -> Draft
+        ensures value { result ≡ (workspace_of self.now).draft }
+    {
+        self.draft
+    }
+
+    /// How many documents there are: those that are open, and after them what was retrieved.
+    pub fn len(&self) -> usize {
+        self.documents.len().saturating_add(self.held.len())
+    }
+
+    // The document with a number that was retrieved and has no text.
+    fn held(&self, number: usize) -> Option<&Held> {
+        self.held.get(number.checked_sub(self.documents.len())?)
+    }
+
+    /// The URI of the document with a number.
+    pub fn uri(&self, number: usize) -> Option<&Uri>
+        ensures value { option_map (λ u. u.now) result
+            ≡ option_map (λ s. s.uri) (slice_get (spec.all (workspace_of self.now)) number) }
+    {
+        match self.documents.get(number) {
+            Some(document) => Some(&document.uri),
+            None => Some(&self.held(number)?.uri),
+        }
+    }
+
+    /// The value of the document with a number, where it is JSON.
+    pub fn value(&self, number: usize) -> Option<&Value>
+        ensures value { option_map (λ v. view v.now) result
+            ≡ option_and_then (λ s. s.tree) (slice_get (spec.all (workspace_of self.now)) number) }
+    {
+        match self.documents.get(number) {
+            Some(document) => document.value(),
+            None => Some(&self.held(number)?.value),
+        }
+    }
+
+    /// The value of the document with a number as it is read: the tree in place of its own, where there is one, or an empty one
+    /// where it is no JSON.
+    pub fn read_value<'d>(&'d self, number: usize, trees: &'d [Option<Value>]) -> &'d Value {
+        if let Some(Some(tree)) = trees.get(number) {
+            return tree;
+        }
+        match self.value(number) {
+            Some(value) => value,
+            None => &self.empty,
+        }
+    }
+
+    /// The name of the document with a number, or the URI of what was retrieved and has none.
+    pub fn name(&self, number: usize) -> &str {
+        if let Some(document) = self.documents.get(number) {
+            return document.name.as_str();
+        }
+        match self.held(number) {
+            Some(held) => held.uri.as_str(),
+            None => "",
+        }
+    }
+
+    /// Keeps the documents to the end of the program, which is faster than to free their values one by one, and returns how
+    /// many are asked about.
+    pub fn keep(self) -> usize {
+        let kept = self.documents.leak();
+        self.asked.min(kept.len())
+    }
+}
+
+// A retrieved document that is called by its URI.
+fn retrieved(alloc: Global, held: Held) -> Result<Document, AllocError> {
+    let name = String::from_str(alloc, held.uri.as_str())?;
+    let Held { uri, value } = held;
+    Ok(Document {
+        name,
+        uri,
+        text: JsonText {
+            text: String::new(alloc),
+            value: Ok(value),
+        },
+    })
+}
+
+fn push(documents: &mut Vec<Document>, document: Document) -> Result<(), AllocError> {
+    documents.push(document)?;
+    Ok(())
+}
+
+fn push_held(list: &mut Vec<Held>, held: Held) -> Result<(), AllocError> {
+    list.push(held)?;
+    Ok(())
+}
