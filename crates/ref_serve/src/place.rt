@@ -1,12 +1,10 @@
 //! Where a value is found.
-ghost use Rattle.std.specs.Prelude.{◌≡◌, ◌∷◌, ◌++◌, [], codes, map, Some, None, IfOk, IfErr, OnOk, Option};
-ghost use Rattle.std.specs.Prelude.{option_map};
+ghost use Rattle.std.specs.Prelude.{◌≡◌, ◌∷◌, ◌++◌, [], codes, map, IfOk, IfErr, OnOk, option_map};
 ghost use Rattle.serde_json.specs.Data.{string};
 ghost use Rattle.serde_json.specs.View.{view, members_view};
 ghost use Rattle.ref_parts.specs.Pointer.{pointer_text};
 ghost use Rattle.ref_paths.specs.Segment.{part_of};
 ghost use Rattle.ref_error.specs.Errors.{IsFaultOf};
-ghost use Rattle.ref_resolver.specs.Locations.{GivesWhere, location_view};
 ghost use Rattle.ref_resolver.specs.Resolving.{resolver_of, world_of};
 ghost use Rattle.ref_calls.specs.Objects.{object_of, with_all, whole};
 ghost use Rattle.ref_serve.specs.Results as results;
@@ -17,25 +15,6 @@ use ref_calls::members::{Members, put_number, put_text, uris_of};
 use referencing::{Draft, Error, JsonPointerSegment, Location, Resolver, pointer_of};
 use serde_json::{Map, Value, put};
 use std::alloc::{AllocError, Global};
-
-// Where the value is that a reference means, or without one a recursive reference.
-fn location_of<'s>(
-    alloc: Global,
-    resolver: &Resolver<'s>,
-    reference: Option<&str>,
-) -> Result<Location<'s>, Error>
-    ensures gives { GivesWhere (world_of resolver.now)
-        (answer_at (world_of resolver.now) (resolver_of resolver.now)
-        (option_map (λ r. r.now) reference.entry)) result }
-    ensures place { IfOk result
-        (λ l. place_at (world_of resolver.now) (resolver_of resolver.now)
-        (option_map (λ r. r.now) reference.entry) ≡ Some (location_view l)) }
-{
-    match reference {
-        Some(reference) => resolver.location(alloc, reference),
-        None => resolver.location_recursive(alloc),
-    }
-}
 
 /// Puts a place in one of a registry's own documents.
 pub fn put_site(
@@ -94,11 +73,10 @@ pub fn found_at<'s>(
         (IsFaultOf (answer_at (world_of resolver.now) (resolver_of resolver.now) (option_map
         (λ r. r.now) reference.entry))) }
 {
-    let resolved = match reference {
-        Some(reference) => resolver.lookup(alloc, reference)?,
-        None => resolver.lookup_recursive_ref(alloc)?,
+    let (resolved, location) = match reference {
+        Some(reference) => resolver.lookup_located(alloc, reference)?,
+        None => resolver.lookup_recursive_located(alloc)?,
     };
-    let location = location_of(alloc, resolver, reference)?;
     let (value, next, draft) = resolved.into_inner();
     let found = Found {
         value,
