@@ -74,8 +74,8 @@ fn looked_up<'w>(
     reference: &str,
 ) -> Result<Found<'w>, Error> {
     let start = world.registry.resolver(alloc, base)?;
-    let (value, resolver, draft) = start.lookup(alloc, reference)?.into_inner();
-    let location = start.location(alloc, reference)?;
+    let (found, location) = start.lookup_located(alloc, reference)?;
+    let (value, resolver, draft) = found.into_inner();
     let pointer = location.pointer(alloc)?;
     Ok(Found {
         value,
