@@ -37,8 +37,12 @@ pub fn open_file<'r>(
     output: Option<&str>,
 ) -> Result<Opened<'r>, Stop> {
     let reading = reading_of(rt, given)?;
-    let listed = list_one(rt, reading.file, &reading.selection, output)?;
+    let mut listed = list_one(rt, reading.file, &reading.selection, output)?;
     say_failures(rt, &listed.failures);
+    // What is wrong with any of them is asked about, since the first one may need it.
+    for file in &mut listed.files {
+        file.is_own = true;
+    }
     open_listed(rt, &reading, listed)
 }
 

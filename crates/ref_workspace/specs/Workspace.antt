@@ -1,6 +1,5 @@
 -- The documents that are open, and what is asked of all of them.
-use Rattle.std.specs.Prelude.{ℕ, ◌+◌, ◌-◌, if◌then◌else◌, nat_lt, List, ◌++◌, map, take, drop, slice_get, slice_set, Option}
-use Rattle.std.specs.Option.{option_map_or}
+use Rattle.std.specs.Prelude.{ℕ, ◌+◌, ◌-◌, if◌then◌else◌, nat_lt, List, ◌++◌, map, take, drop, Option}
 use Rattle.std.specs.List.{insert, remove}
 use Rattle.serde_json.specs.Data.{Data}
 use Rattle.ref_draft.specs.declared.draft.Draft.{Draft}
@@ -35,17 +34,6 @@ abbrev pub with_beside : Document → Workspace → Workspace
 with_beside d w =
     record w { documents = insert w.documents w.opened d; opened = w.opened + 1 }
 
--- with another text for a document
-abbrev pub with_new_text : List ℕ → Option Data → Document → Document
-with_new_text text tree d = record d { text = text; tree = tree }
-
--- with another text for the document with a number, where there is one
-abbrev pub with_text : ℕ → List ℕ → Option Data → Workspace → Workspace
-with_text number text tree w =
-    option_map_or
-    (λ d. record w { documents = slice_set w.documents number (with_new_text text tree d) })
-    (slice_get w.documents number) w
-
 -- how many of the first are left without the one with a number
 abbrev pub count_without : ℕ → ℕ → ℕ
 count_without number count = if nat_lt number count then count - 1 else count
@@ -74,10 +62,6 @@ sources w = map as_source (take w.asked w.documents)
 -- those that references may lead into
 abbrev pub others : Workspace → List Source
 others w = map as_source (drop w.asked w.documents) ++ w.held
-
--- all documents, by their numbers
-abbrev pub all : Workspace → List Source
-all w = map as_source w.documents ++ w.held
 
 -- all that is wrong with what is asked about
 abbrev pub findings : Workspace → List Finding

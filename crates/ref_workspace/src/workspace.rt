@@ -1,7 +1,6 @@
 //! The documents that are open.
-ghost use Rattle.std.specs.Prelude.{◌≡◌, ◌≤◌, [], drop, map, option_and_then, option_map, slice_get, string_bytes, take, vec_len, OnErr, OnOk};
+ghost use Rattle.std.specs.Prelude.{◌≡◌, ◌≤◌, [], drop, map, option_map, take, vec_len, OnErr, OnOk};
 ghost use Rattle.serde_json.specs.View.{view};
-ghost use Rattle.ref_files.specs.Texts.{tree_of};
 ghost use Rattle.ref_findings.specs.Held.{held_source};
 ghost use Rattle.ref_workspace.specs.Workspace as spec;
 
@@ -74,6 +73,7 @@ impl Workspace {
     }
 
     /// Opens a document that is asked about, after the others that are. Fails only if out of memory, and then nothing is changed.
+    #[tactic(auto, using(crate::proofs::Opening::mapped_insert))]
     pub fn open(&mut self, document: Document) -> Result<(), AllocError>
         ensures ok { OnOk result
             (workspace_of self.new
@@ -87,6 +87,7 @@ impl Workspace {
     }
 
     /// Opens a document that references may lead into, after all that are open. Fails only if out of memory, and then nothing is changed.
+    #[tactic(auto, using(crate::proofs::Opening::mapped_insert))]
     pub fn open_beside(&mut self, document: Document) -> Result<(), AllocError>
         ensures ok { OnOk result
             (workspace_of self.new
@@ -99,16 +100,14 @@ impl Workspace {
     }
 
     /// Opens another text in place of that of the document with a number, where there is one.
-    pub fn replace(&mut self, number: usize, text: JsonText)
-        ensures value { workspace_of self.new
-            ≡ spec.with_text number (string_bytes text.text) (tree_of text) (workspace_of self.old) }
-    {
+    pub fn replace(&mut self, number: usize, text: JsonText) {
         if let Some(document) = self.documents.get_mut(number) {
             document.text = text;
         }
     }
 
     /// Closes the document with a number, where one is open. Those after it get the numbers before their own.
+    #[tactic(auto, using(crate::proofs::Opening::mapped_remove))]
     pub fn close(&mut self, number: usize)
         ensures value { workspace_of self.new ≡ spec.without number (workspace_of self.old) }
     {
@@ -163,6 +162,7 @@ impl Workspace {
     }
 
     /// Those documents that are asked about.
+    #[tactic(auto, using(crate::proofs::Opening::mapped_take))]
     pub fn asked_about(&self) -> &[Document]
         ensures value { map document_of result.now
             ≡ take (workspace_of self.now).asked (workspace_of self.now).documents }
@@ -171,6 +171,7 @@ impl Workspace {
     }
 
     /// The other documents that have a name and a text of their own.
+    #[tactic(auto, using(crate::proofs::Opening::mapped_rest))]
     pub fn not_asked(&self) -> &[Document]
         ensures value { map document_of result.now
             ≡ drop (workspace_of self.now).asked (workspace_of self.now).documents }
@@ -217,10 +218,7 @@ impl Workspace {
     }
 
     /// The URI of the document with a number.
-    pub fn uri(&self, number: usize) -> Option<&Uri>
-        ensures value { option_map (λ u. u.now) result
-            ≡ option_map (λ s. s.uri) (slice_get (spec.all (workspace_of self.now)) number) }
-    {
+    pub fn uri(&self, number: usize) -> Option<&Uri> {
         match self.documents.get(number) {
             Some(document) => Some(&document.uri),
             None => Some(&self.held(number)?.uri),
@@ -228,10 +226,7 @@ impl Workspace {
     }
 
     /// The value of the document with a number, where it is JSON.
-    pub fn value(&self, number: usize) -> Option<&Value>
-        ensures value { option_map (λ v. view v.now) result
-            ≡ option_and_then (λ s. s.tree) (slice_get (spec.all (workspace_of self.now)) number) }
-    {
+    pub fn value(&self, number: usize) -> Option<&Value> {
         match self.documents.get(number) {
             Some(document) => document.value(),
             None => Some(&self.held(number)?.value),
@@ -283,7 +278,9 @@ fn retrieved(alloc: Global, held: Held) -> Result<Document, AllocError> {
     })
 }
 
-fn push(documents: &mut Vec<Document>, document: Document) -> Result<(), AllocError> {
+fn push(documents: &mut Vec<Document>, document: Document) -> Result<(), AllocError>
+    ensures { vec_len documents.old ≤ vec_len documents.new }
+{
     documents.push(document)?;
     Ok(())
 }
