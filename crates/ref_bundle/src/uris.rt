@@ -1,13 +1,10 @@
 //! The URIs that places have and refer to.
-ghost use Rattle.std.specs.Prelude.{◌≡◌, [], ◌++◌, map, None, Some, option_map, option_and_then, if◌then◌else◌, IfOk};
+ghost use Rattle.std.specs.Prelude.{◌≡◌, [], ◌++◌, map, Some, None, option_map, option_and_then, if◌then◌else◌, IfOk};
 ghost use Rattle.std.specs.Prelude.{OnOk};
 ghost use Rattle.std.specs.Option.{option_to_list};
 ghost use Rattle.std.specs.Result.{result_ok};
 ghost use Rattle.serde_json.specs.View.{view};
 ghost use Rattle.ref_paths.specs.Path.{path_eq};
-ghost use Rattle.ref_draft.specs.Schema.{text_under};
-ghost use Rattle.ref_uri.specs.Reference.{with_fragment};
-ghost use Rattle.ref_uri.specs.Targets.{uri_against, target, uri_of};
 ghost use Rattle.ref_definitions.specs.Resources.{meant_place};
 ghost use Rattle.ref_definitions.specs.Wants.{schema_at};
 ghost use Rattle.ref_bundle.specs.Needed.{reference_of, reference_under, meta_schema_of, references_from, targets_from};
@@ -16,9 +13,9 @@ ghost use Rattle.ref_bundle.specs.Bundle.{identified_from};
 ghost use Rattle.ref_bundle.specs.inner.Seen.{seen_spot, seen_reference, own_uri_of, document_in, HasPlaces};
 
 use crate::own::{Own, Spot};
-use ref_uri::parts::{parts, uri_part};
-use referencing::uri::{from_str, resolve_against};
-use referencing::{Draft, List, Registry, ResourceRef, Uri, UriFault};
+use ref_index::meanings::{dialect_in, if_meant, meta_schema_of, resolved, target_of, text_under};
+use ref_uri::parts::parts;
+use referencing::{List, Registry, ResourceRef, Uri};
 use serde_json::Value;
 use std::alloc::{AllocError, Global};
 use std::rc::Rc;
@@ -28,63 +25,6 @@ use std::rc::Rc;
 pub(crate) struct Reference<'v> {
     pub uri: Rc<Uri>,
     pub fragment: &'v str,
-}
-
-// The URI that a text means against a base, where it means one.
-fn resolved(alloc: Global, base: &Rc<Uri>, text: &str) -> Result<Option<Rc<Uri>>, AllocError>
-    ensures { IfOk result
-        (λ o. option_map (λ u. u.value) o ≡ result_ok (uri_against base.now.value text.now)) }
-{
-    match resolve_against(alloc, base.borrow(), text) {
-        Ok(uri) => Ok(Some(Rc::new(alloc, uri)?)),
-        Err(UriFault::Invalid(error)) => {
-            drop(error);
-            Ok(None)
-        }
-        Err(UriFault::Memory(error)) => Err(error),
-    }
-}
-
-// The URI that a reference points into, where it means one.
-fn target(alloc: Global, base: &Rc<Uri>, reference: &str) -> Result<Option<Rc<Uri>>, AllocError>
-    ensures { IfOk result
-        (λ o. option_map (λ u. u.value) o ≡ result_ok (target base.now.value reference.now)) }
-{
-    if reference.starts_with('#') {
-        return Ok(Some(base.clone()?));
-    }
-    resolved(alloc, base, uri_part(reference))
-}
-
-// The URI without its fragment, shared.
-fn without_fragment(alloc: Global, uri: Uri) -> Result<Rc<Uri>, AllocError>
-    ensures { IfOk result (λ u. u.value ≡ with_fragment uri None) }
-{
-    let mut uri = uri;
-    uri.drop_fragment();
-    Ok(Rc::new(alloc, uri)?)
-}
-
-// The URI that a text names a meta-schema by, where it means one.
-fn meta_schema(alloc: Global, text: &str) -> Result<Option<Rc<Uri>>, AllocError>
-    ensures { IfOk result (λ o. option_map (λ u. u.value) o
-        ≡ option_map (λ uri. with_fragment uri None) (result_ok (uri_of text.now))) }
-{
-    match from_str(alloc, text) {
-        Ok(uri) => Ok(Some(without_fragment(alloc, uri)?)),
-        Err(UriFault::Invalid(error)) => {
-            drop(error);
-            Ok(None)
-        }
-        Err(UriFault::Memory(error)) => Err(error),
-    }
-}
-
-// The text under a key of an object.
-fn text_under<'v>(value: &'v Value, key: &str) -> Option<&'v str>
-    ensures { option_map (λ text. text.now) result ≡ text_under key.now (view value.now) }
-{
-    value.get(key).and_then(Value::as_str)
 }
 
 // What a text refers to from a base, where it means a URI.
@@ -97,7 +37,7 @@ fn reference_of<'v>(
         (λ o. option_map seen_reference o ≡ reference_of base.now.value text.now) }
 {
     let (_, fragment) = parts(text);
-    match target(alloc, base, text)? {
+    match if_meant(target_of(alloc, base, text))? {
         Some(uri) => Ok(Some(Reference { uri, fragment })),
         None => Ok(None),
     }
@@ -125,16 +65,14 @@ fn dialect(alloc: Global, value: &Value) -> Result<Option<Rc<Uri>>, AllocError>
     ensures { IfOk result (λ o. option_map (λ u. u.value) o
         ≡ option_and_then (λ uri. result_ok uri) (schema_at (view value.now))) }
 {
-    match text_under(value, "$schema") {
-        Some(text) if matches!(Draft::from_schema_uri(text), Draft::Unknown) => {
-            meta_schema(alloc, text)
-        }
-        _ => Ok(None),
+    match dialect_in(value) {
+        Some(text) => if_meant(meta_schema_of(alloc, text)),
+        None => Ok(None),
     }
 }
 
 // The custom meta-schema that a value names, as a whole.
-fn meta_schema_of<'v>(alloc: Global, value: &'v Value) -> Result<Option<Reference<'v>>, AllocError>
+fn named_by<'v>(alloc: Global, value: &'v Value) -> Result<Option<Reference<'v>>, AllocError>
     ensures { IfOk result
         (λ o. option_map seen_reference o ≡ meta_schema_of (view value.now)) }
 {
@@ -179,7 +117,7 @@ pub(crate) fn references<'v>(
         &mut references,
         reference_under(alloc, &spot.base, spot.value, "$dynamicRef")?,
     )?;
-    push(&mut references, meta_schema_of(alloc, spot.value)?)?;
+    push(&mut references, named_by(alloc, spot.value)?)?;
     Ok(references)
 }
 
@@ -199,7 +137,7 @@ pub(crate) fn identified(
         return Ok(None);
     };
     match ResourceRef::new(value, draft).id() {
-        Some(id) => resolved(alloc, uri, id),
+        Some(id) => if_meant(resolved(alloc, uri, id)),
         None => Ok(None),
     }
 }
