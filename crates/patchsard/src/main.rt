@@ -48,7 +48,10 @@ fn say_other_arguments(rt: &HostRuntime) {
 // Says that an argument is no UTF-8, where it isn't.
 fn say_other_argument(rt: &HostRuntime, bytes: &[u8]) {
     if from_utf8(bytes).is_err() {
-        let _ = eprintln!(rt; "patchsard: {}: an argument that is not UTF-8", PlainBytes(bytes));
+        let _ = eprintln!(rt;
+            "patchsard: {}: an argument that is not UTF-8",
+            PlainBytes(bytes)
+        );
     }
 }
 

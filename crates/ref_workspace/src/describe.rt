@@ -153,7 +153,11 @@ impl<'l, 'd> Describer<'l, 'd> {
                 ["Two schemas have the identifier '", uri.as_str(), "'"].join(alloc, "")
             }
             Problem::DuplicateAnchor { uri, .. } => anchor_text(alloc, uri, finding.text),
-            Problem::GuessedDraft { draft, .. } => referred_text(alloc, self.workspace.draft(), *draft),
+            Problem::GuessedDraft { draft, .. } => referred_text(
+                alloc,
+                self.workspace.draft(),
+                *draft,
+            ),
             Problem::ListOfItems => String::from_str(
                 alloc,
                 "The file names no draft and is read as Draft 2020-12, where items is one schema, not a list",
