@@ -5,10 +5,11 @@
 mod serve;
 
 use clap::ArgMatches;
-use ref_command_line::{Console, Stop, command, console};
+use ref_command_line::{Console, Stop, command, console, say};
 use ref_commands::{bundle, graph, lint, places, resolve};
 use ref_messages::PlainBytes;
 use simdutf8::compat::from_utf8;
+use std::alloc::AllocError;
 use std::env::{Env, FillError};
 use std::process::ExitCode;
 use std::{env, io};
@@ -27,22 +28,26 @@ fn words_of(rt: &HostRuntime) -> Result<Vec<String>, Stop> {
         Ok(words) => Ok(without_help_of_help(words.collect(rt.alloc())?)),
         Err(error) if error.kind() == io::ErrorKind::OutOfMemory => Err(Stop::Memory),
         Err(_) => {
-            say_other_arguments(rt);
+            say_other_arguments(rt)?;
             Err(Stop::Reported)
         }
     }
 }
 
-// Says which arguments are no UTF-8, each as far as its first 4,096 bytes.
-fn say_other_arguments(rt: &HostRuntime) {
-    let mut buffer = [0u8; 4096];
+// How many bytes an argument has at most, on Linux.
+const MOST_BYTES: usize = 131_072;
+
+// Says which arguments are no UTF-8.
+fn say_other_arguments(rt: &HostRuntime) -> Result<(), AllocError> {
+    let mut buffer = vec![in rt.alloc(); 0u8; MOST_BYTES]?;
     for number in 1..usize::MAX {
-        match rt.arg(number, &mut buffer) {
+        match rt.arg(number, buffer.as_mut_slice()) {
             Ok(length) => say_other_argument(rt, buffer.get(..length).unwrap_or(&[])),
             Err(FillError::NotPresent) => break,
-            Err(FillError::TooLong) => say_other_argument(rt, &buffer),
+            Err(FillError::TooLong) => say(rt, "an argument is too long"),
         }
     }
+    Ok(())
 }
 
 // Says that an argument is no UTF-8, where it isn't.

@@ -150,13 +150,13 @@ fn about<'c>(subcommand: Subcommand) -> &'c str {
 fn status_of<'c>(subcommand: Subcommand) -> &'c str {
     match subcommand {
         Subcommand::Lint => {
-            "Exit status: 0 where nothing is wrong, 1 where something is, 2 where a path can't be read or the command line is wrong."
+            "Exit status: 0 where nothing is an error, 1 where something is, or nothing was looked at, 2 where a path can't be read or the command line is wrong. Warnings and notes are no errors."
         }
         Subcommand::Resolve => {
             "Exit status: 0 where the reference leads to a value, 1 where it doesn't, 2 where a path can't be read or the command line is wrong."
         }
         Subcommand::Places => {
-            "Exit status: 0 where all files are listed, 1 where one has faults, 2 where a path can't be read or the command line is wrong."
+            "Exit status: 0 where all files are listed, 1 where one is no JSON, 2 where a path can't be read or the command line is wrong."
         }
         Subcommand::Graph => {
             "Exit status: 0 where all files are drawn, 1 where one is no JSON, 2 where a path can't be read or the command line is wrong."

@@ -6,7 +6,8 @@ use std::fs;
 use std::io::ErrorKind;
 
 /// The path, as it may be given to `--with`, of the file that has a missing URI, where there is one: in the folder of the
-/// document with a number, which refers to it, or below, or below the working folder. Nothing of it is read.
+/// document with a number, which refers to it, or below, or below the working folder. Where files are under the URI of `--base`, it is that
+/// of the folder, below which the file has the URI. Nothing of it is read.
 pub fn beside(
     rt: &HostRuntime,
     opened: &Opened<'_>,
@@ -28,6 +29,9 @@ pub fn beside(
         let real = joined(alloc, folder_of(path.as_str()), below.as_str())?;
         if !is_file(rt, real.as_str())? {
             return Ok(None);
+        }
+        if !document.uri.as_str().starts_with("file:") {
+            return Ok(Some(shown_folder(alloc, document.name.as_str())?));
         }
         return Ok(Some(shown(alloc, document.name.as_str(), below.as_str())?));
     }
@@ -91,4 +95,13 @@ fn shown(alloc: Global, other: &str, below: &str) -> Result<String, AllocError> 
         return joined(alloc, folder_of(other), below);
     }
     String::from_str(alloc, below.strip_prefix('/').unwrap_or(below))
+}
+
+// The folder of a file as that is shown.
+fn shown_folder(alloc: Global, other: &str) -> Result<String, AllocError> {
+    match other.rsplit_once('/') {
+        Some(("", _)) => String::from_str(alloc, "/"),
+        Some((folder, _)) => String::from_str(alloc, folder),
+        None => String::from_str(alloc, "."),
+    }
 }

@@ -6,7 +6,7 @@ use clap::ArgMatches;
 use ref_command_line::{Console, Stop, say};
 use ref_findings::{Finding, Problem};
 use ref_messages::{Level, Message, push_annotation, push_line, push_sarif, push_text};
-use ref_workspace::{Describer, RULES};
+use ref_workspace::{Describer, Document, RULES};
 use std::alloc::{AllocError, Global};
 use std::io;
 use std::time::Instant;
@@ -40,8 +40,12 @@ pub fn lint(
 ) -> Result<u8, Stop> {
     let begin = Instant::now(rt);
     let opened = open_given(rt, given)?;
-    let others = opened.workspace.documents().get(opened.workspace.asked()..);
+    let workspace = &opened.workspace;
+    let others = workspace
+        .documents()
+        .get(workspace.asked()..workspace.opened());
     say_broken(rt, others.unwrap_or(&[]));
+    let other_roots = other_roots_in(workspace.asked_about());
     let is_verbose = given.get_flag("verbose");
     let listed = list_all(rt, console, form_of(given), is_verbose, &opened);
     let has_failed = opened.has_failed;
@@ -52,7 +56,8 @@ pub fn lint(
     };
     summary(rt, files, count)?;
     print_time(rt, begin);
-    let is_looked_at = files > count.unread || count.references > 0;
+    let unread = count.unread.saturating_add(other_roots);
+    let is_looked_at = files > unread || count.references > 0;
     if !is_looked_at && !has_failed {
         say_nothing(rt, files);
     }
@@ -89,6 +94,19 @@ fn say_nothing(rt: &HostRuntime, files: usize) {
     } else {
         say(rt, "nothing was looked at in any of these files");
     }
+}
+
+// How many documents are JSON whose root is neither an object nor a boolean, and so no schema.
+fn other_roots_in(documents: &[Document]) -> usize {
+    let mut count: usize = 0;
+    for document in documents {
+        if let Some(value) = document.value() {
+            if !value.is_object() && !value.is_boolean() {
+                count = count.saturating_add(1);
+            }
+        }
+    }
+    count
 }
 
 // How many sources are no JSON, or descriptions whose references aren't checked.

@@ -18,8 +18,11 @@ pub fn message_at<'d>(
         return Ok(None);
     };
     match help_at(rt, opened, describer, place) {
-        Ok(help) => {
+        Ok((help, is_beside)) => {
             message.help = help;
+            if is_beside {
+                message.suggestion = None;
+            }
             Ok(Some(message))
         }
         Err(error) => {
@@ -29,18 +32,20 @@ pub fn message_at<'d>(
     }
 }
 
+// What to do about a finding, and whether it is to name a file that is there, so that nothing else is meant.
 fn help_at(
     rt: &HostRuntime,
     opened: &Opened<'_>,
     describer: &mut Describer<'_, '_>,
     place: usize,
-) -> Result<Option<String>, AllocError> {
+) -> Result<(Option<String>, bool), AllocError> {
     if let Some(finding) = describer.finding(place) {
         if let Problem::MissingDocument { uri } = &finding.problem {
             if let Some(path) = beside(rt, opened, finding.source, uri.as_str())? {
-                return Ok(Some(["--with ", path.as_str()].join(rt.alloc(), "")?));
+                let help = ["--with ", path.as_str()].join(rt.alloc(), "")?;
+                return Ok((Some(help), true));
             }
         }
     }
-    describer.help(place)
+    Ok((describer.help(place)?, false))
 }

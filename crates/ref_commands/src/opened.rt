@@ -3,7 +3,7 @@ use clap::ArgMatches;
 use ref_command_line::options::{maps, reading_of, say_unused};
 use ref_command_line::{Reading, Stop, say, say_failures};
 use ref_error::Error;
-use ref_files::{Listed, Maps, ReadFile, list_files, list_one, read_all};
+use ref_files::{BrokenFile, Listed, Maps, ReadFile, list_files, list_one, read_all};
 use ref_messages::Plain;
 use ref_workspace::{Document, Workspace};
 use std::alloc::AllocError;
@@ -101,7 +101,18 @@ impl Opened<'_> {
         for number in self.workspace.opened()..self.workspace.documents().len() {
             self.name(rt, number)?;
         }
+        for file in self.maps.take_broken() {
+            self.add_broken(file)?;
+        }
         Ok(())
+    }
+
+    // Adds a retrieved file that is no JSON.
+    fn add_broken(&mut self, file: BrokenFile) -> Result<(), AllocError> {
+        let BrokenFile { uri, path, text } = file;
+        let name = path.clone()?;
+        self.paths.push(path)?;
+        self.workspace.add_retrieved(Document { name, uri, text })
     }
 
     // Gives a retrieved document the name and the text of its file.

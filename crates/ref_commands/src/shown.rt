@@ -2,6 +2,7 @@
 use ref_command_line::Stop;
 use ref_draft::Draft;
 use ref_messages::{Plain, push_json};
+use ref_parts::value_at;
 use ref_workspace::follow::Found;
 use ref_workspace::pointer::{path_to, position};
 use ref_workspace::{Document, Workspace, World};
@@ -18,11 +19,27 @@ pub fn push_found(
     world: &World<'_>,
     found: &Found<'_>,
 ) -> Result<(), Stop> {
-    push_value(alloc, out, found.value)?;
     let number = world.sources.get(found.document).copied().unwrap_or(0);
+    let own = own_value(alloc, workspace.value(number), found.pointer.as_str())?;
+    push_value(alloc, out, own.unwrap_or(found.value))?;
     push_line(alloc, out, workspace, number, found.pointer.as_str())?;
     push_scope(out, found.draft, &found.resolver)?;
     Ok(())
+}
+
+// The value at a pointer of a document as its file has it: what is read has `null` in place of a text that means no URI.
+fn own_value<'v>(
+    alloc: Global,
+    root: Option<&'v Value>,
+    pointer: &str,
+) -> Result<Option<&'v Value>, AllocError> {
+    let Some(root) = root else {
+        return Ok(None);
+    };
+    match path_to(alloc, Some(root), pointer)? {
+        Some(path) => Ok(value_at(root, path.as_slice())),
+        None => Ok(None),
+    }
 }
 
 fn push_value(alloc: Global, out: &mut String, value: &Value) -> Result<(), Stop> {

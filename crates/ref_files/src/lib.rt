@@ -22,7 +22,7 @@ mod write;
 
 pub use failure::{Failure, Failures};
 pub use listing::{File, Listed, Selection, list_files, list_one};
-pub use maps::{Map, Maps, is_base};
+pub use maps::{BrokenFile, Map, Maps, is_base};
 pub use name::{Name, names_of};
 pub use path::{folder_of, last_name};
 pub use prefix::{below_prefix, path_below};

@@ -146,7 +146,8 @@ impl<'r> Listing<'r> {
             Ok(path) => path,
             Err(error) if error.kind() == io::ErrorKind::OutOfMemory => return Err(AllocError),
             Err(error) => {
-                return self.failures.fail("-", error);
+                let input = self.input.clone()?;
+                return self.failures.fail(input.as_str(), error);
             }
         };
         let alloc = self.rt.alloc();
@@ -155,16 +156,31 @@ impl<'r> Listing<'r> {
         self.put(shown, path, below, true)
     }
 
-    // The absolute path that standard input counts as: its file needn't be there, but its folder.
+    // The absolute path that standard input counts as: neither its file nor its folders need be there.
     fn input_path(&self) -> io::Result<String> {
         let input = self.input.as_str();
-        if let Ok(real) = fs::canonicalize(self.rt, input) {
-            return Ok(real.into_string());
+        for passed in 0..input.len() {
+            let end = input.len().saturating_sub(passed);
+            let (front, rest) = (input.get(..end), input.get(end..).unwrap_or(""));
+            if passed > 0 && !rest.starts_with('/') {
+                continue;
+            }
+            if let Ok(real) = fs::canonicalize(self.rt, front.unwrap_or("")) {
+                return self.input_below(real.into_string(), rest);
+            }
         }
-        let (folder, name) = input.rsplit_once('/').unwrap_or((".", input));
-        let folder = if folder.is_empty() { "/" } else { folder };
-        let real = fs::canonicalize(self.rt, folder)?.into_string();
-        Ok(joined(self.rt.alloc(), real.as_str(), name)?)
+        let folder = if input.starts_with('/') { "/" } else { "." };
+        let real = fs::canonicalize(self.rt, folder)?;
+        self.input_below(real.into_string(), input)
+    }
+
+    // The path of what is below a folder that is there.
+    fn input_below(&self, folder: String, rest: &str) -> io::Result<String> {
+        let rest = rest.trim_start_matches('/');
+        if rest.is_empty() {
+            return Ok(folder);
+        }
+        Ok(joined(self.rt.alloc(), folder.as_str(), rest)?)
     }
 
     // Adds the file at a path.

@@ -2,7 +2,7 @@
 use crate::failure::Failures;
 use crate::name::names_of;
 use crate::prefix::{below_prefix, path_below};
-use crate::text::parsed;
+use crate::text::JsonText;
 use ref_error::{Reason, Retrieve, RetrieveError};
 use ref_uri::uri::from_str;
 use ref_uri::{Uri, UriFault, UriRef};
@@ -53,6 +53,24 @@ pub struct Maps<'r> {
     maps: Vec<Map>,
     // What could not be read since it was asked for last.
     failures: Cell<Failures>,
+    // What was read since it was asked for last, and is no JSON.
+    broken: Cell<Vec<BrokenFile>>,
+}
+
+/// A file that was retrieved and is no JSON.
+#[derive(Drop)]
+pub struct BrokenFile {
+    /// The URI that it was retrieved for.
+    pub uri: Uri,
+    /// Its path.
+    pub path: String,
+    /// Its text, and why it is no JSON.
+    pub text: JsonText,
+}
+
+fn push_broken(list: &mut Vec<BrokenFile>, file: BrokenFile) -> Result<(), AllocError> {
+    list.push(file)?;
+    Ok(())
 }
 
 impl<'r> Maps<'r> {
@@ -62,7 +80,13 @@ impl<'r> Maps<'r> {
             rt,
             maps: Vec::new(rt.alloc()),
             failures: Cell::new(Failures::new(rt.alloc())),
+            broken: Cell::new(Vec::new(rt.alloc())),
         }
+    }
+
+    /// The files that were retrieved and are no JSON, since the last call.
+    pub fn take_broken(&self) -> Vec<BrokenFile> {
+        self.broken.replace(Vec::new(self.rt.alloc()))
     }
 
     /// What could not be read since the last call.
@@ -145,19 +169,30 @@ impl<'r> Maps<'r> {
         }
     }
 
-    // Reads a file.
-    fn read(&self, alloc: Global, path: &str) -> Result<Option<Value>, AllocError> {
-        let Some(text) = self.read_text(path)? else {
+    // Reads the file that a URI means.
+    fn read(&self, alloc: Global, uri: &Uri, path: String) -> Result<Option<Value>, AllocError> {
+        let Some(text) = self.read_text(path.as_str())? else {
             return Ok(None);
         };
-        match parsed(alloc, text.as_str())? {
+        let JsonText { text, value } = JsonText::new(alloc, text)?;
+        match value {
             Ok(value) => Ok(Some(value)),
             Err(fault) => {
-                let place = format!(in alloc; "{path}:{}:{}", fault.line, fault.column)?;
-                self.fail(place.as_str(), fault.text.as_str())?;
+                let value = Err(fault);
+                let text = JsonText { text, value };
+                let uri = uri.clone()?;
+                self.keep(BrokenFile { uri, path, text })?;
                 Ok(None)
             }
         }
+    }
+
+    // Keeps a file that is no JSON.
+    fn keep(&self, file: BrokenFile) -> Result<(), AllocError> {
+        let mut broken = self.take_broken();
+        let added = push_broken(&mut broken, file);
+        self.broken.set(broken);
+        added
     }
 
     /// The text of the file that a URI means, where there is one.
@@ -168,9 +203,9 @@ impl<'r> Maps<'r> {
         self.read_text(path.as_str())
     }
 
-    fn document(&self, alloc: Global, uri: &str) -> Result<Option<Value>, AllocError> {
-        match self.path_of(alloc, uri)? {
-            Some(path) => self.read(alloc, path.as_str()),
+    fn document(&self, alloc: Global, uri: &Uri) -> Result<Option<Value>, AllocError> {
+        match self.path_of(alloc, uri.as_str())? {
+            Some(path) => self.read(alloc, uri, path),
             None => Ok(None),
         }
     }
@@ -213,7 +248,7 @@ impl Retrieve for Maps<'_> {
     ghost meaning = { λ _. any_retriever };
 
     fn retrieve(&self, alloc: Global, uri: &Uri) -> Result<Value, RetrieveError> {
-        match self.document(alloc, uri.as_str())? {
+        match self.document(alloc, uri)? {
             Some(value) => Ok(value),
             None => Err(RetrieveError::Refused(Reason::NoDocument)),
         }

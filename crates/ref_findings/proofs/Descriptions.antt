@@ -1,11 +1,11 @@
 -- By which keyword a root is that of a description.
 use Rattle.std.proofs.Common.{◌≡◌, ◌∙◌, Bool, true, false, Option, Some, None, is_some, List, ℕ, refl, ap, codes, cond}
 use Rattle.serde_json.specs.Data.{Data}
-use Rattle.ref_draft.specs.Schema.{text_under}
+use Rattle.serde_json.specs.Find.{get}
 use Rattle.ref_findings.specs.Findings.{description_keyword}
 
 abbrev pub has : List ℕ → Data → Bool
-has keyword tree = is_some (text_under keyword tree)
+has keyword tree = is_some (get keyword tree)
 
 abbrev by : Bool → Bool → Bool → Option (List ℕ)
 by a b c = cond a (Some (codes "openapi")) (cond b (Some (codes "swagger")) (cond c (Some (codes "asyncapi")) None))

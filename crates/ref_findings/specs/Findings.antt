@@ -277,7 +277,7 @@ no_json number =
 -- Swagger 2.0; AsyncAPI)
 abbrev pub description_keyword : Data → Option (List ℕ)
 description_keyword tree =
-    find (λ keyword. is_some (text_under keyword tree))
+    find (λ keyword. is_some (get keyword tree))
     (codes "openapi" ∷ codes "swagger" ∷ codes "asyncapi" ∷ [])
 
 -- that the source with a number is a description, whose references aren't checked

@@ -105,7 +105,9 @@ pub fn descriptions()
     ensures openapi { findings Draft202012 (source "http://a/r" (one "openapi" (text "3.1.0")) ∷ [])
         []
         ≡ finding_on 0 [] "openapi" "3.1.0" NotChecked ∷ [] }
-    ensures other { findings Draft202012 (source "http://a/r" (one "openapi" yes) ∷ []) [] ≡ [] }
+    ensures no_text { findings Draft202012 (source "http://a/r" (one "swagger" yes) ∷ []) []
+        ≡ finding_without_text 0 [] "swagger" NotChecked ∷ [] }
+    ensures other { findings Draft202012 (source "http://a/r" (one "info" yes) ∷ []) [] ≡ [] }
 {}
 
 /// Two sources with one identifier.
@@ -154,6 +156,16 @@ pub fn guessed_drafts()
         (source "http://a/r"
         (two "$ref" (text "s") "$schema" (text "http://json-schema.org/draft-07/schema#"))
         ∷ source "http://a/s" (one "$schema" (text "http://json-schema.org/draft-06/schema#"))
+        ∷ [])
+        []
+        ≡ [] }
+    ensures no_uri { findings Draft202012
+        (source "http://a/r" (two "$schema" (text "a b") "items" (pair yes yes)) ∷ []) []
+        ≡ finding_on 0 [] "$schema" "a b" (InvalidUri (parse_refusal (codes "a b")))
+        ∷ finding_without_text 0 [] "items" ListOfItems ∷ [] }
+    ensures within_itself { findings Draft202012
+        (source "http://a/r"
+        (one "not" (two "$ref" (text "r") "$schema" (text "http://json-schema.org/draft-07/schema#")))
         ∷ [])
         []
         ≡ [] }

@@ -12,6 +12,7 @@ ghost use Rattle.ref_findings.specs.inner.Adding.{Adds};
 ghost use Rattle.ref_findings.specs.inner.Seen.{place_of, site_of, seen_survey, survey_in, AreSurveys};
 
 use crate::bearers::{Entries, push_uri, table_of};
+use crate::fault::is_schema_refused;
 use crate::finding::{Bearer, Finding, Problem};
 use crate::gathering::referred;
 use crate::place::Place;
@@ -27,10 +28,13 @@ use std::alloc::{AllocError, Global};
 use std::rc::Rc;
 
 // Whether a root names no meta-schema.
-fn is_guessed(value: &Value) -> bool
-    ensures { result ≡ is_guessed (view value.now) }
+fn is_guessed(alloc: Global, value: &Value) -> Result<bool, AllocError>
+    ensures { IfOk result (λ guessed. guessed ≡ is_guessed (view value.now)) }
 {
-    text_under(value, "$schema").is_none()
+    if text_under(value, "$schema").is_none() {
+        return Ok(true);
+    }
+    is_schema_refused(alloc, value)
 }
 
 // Whether a place is of a known draft that isn't this one.
@@ -40,7 +44,7 @@ fn is_of_another(draft: Draft, place: &Place<'_>) -> bool
     place.draft != Draft::Unknown && place.draft != draft
 }
 
-// Adds the URI that the `$ref` of a place points into, where its draft is another one.
+// Adds the URI that the `$ref` of a place points into, where its draft is another one and the URI isn't the place's own base.
 fn push_referred(
     alloc: Global,
     entries: &mut Entries,
@@ -55,8 +59,13 @@ fn push_referred(
     if !is_of_another(draft, site.place) {
         return Ok(());
     }
-    let uri = referred(alloc, site.place)?;
-    push_uri(alloc, entries, uri.as_ref(), number)
+    let Some(uri) = referred(alloc, site.place)? else {
+        return Ok(());
+    };
+    if uri.as_str() == site.place.base().as_str() {
+        return Ok(());
+    }
+    push_uri(alloc, entries, Some(&uri), number)
 }
 
 // The places that refer to each URI by another draft, of which the first counts.
@@ -243,7 +252,7 @@ fn add_document<'v>(
         (reverse referrers.now.table.now) number (source_of survey.now.source.now)
         (view value.now)) }
 {
-    if !is_guessed(value) {
+    if !is_guessed(alloc, value)? {
         return Ok(());
     }
     let places = survey.places.as_slice();

@@ -245,13 +245,13 @@ fn no_json<'v>(alloc: Global, number: usize) -> Finding<'v>
 fn description_keyword(value: &Value) -> Option<&'static str>
     ensures { option_map (λ k. k.now) result ≡ description_keyword (view value.now) }
 {
-    if text_under(value, "openapi").is_some() {
+    if value.get("openapi").is_some() {
         return Some("openapi");
     }
-    if text_under(value, "swagger").is_some() {
+    if value.get("swagger").is_some() {
         return Some("swagger");
     }
-    if text_under(value, "asyncapi").is_some() {
+    if value.get("asyncapi").is_some() {
         return Some("asyncapi");
     }
     None

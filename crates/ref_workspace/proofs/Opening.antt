@@ -1,5 +1,5 @@
 -- What a list of documents is after another was put into it or taken out.
-use Rattle.std.proofs.Common.{◌≡◌, ℕ, ◌-◌, length, length-drop, suc, List, ◌∷◌, ◌++◌, ◌∙◌, map, take, drop, ap, sym}
+use Rattle.std.proofs.Common.{◌≡◌, ℕ, ◌-◌, length, length-drop, suc, List, [], ◌∷◌, ◌++◌, ◌∙◌, map, take, drop, ap, sym}
 use Rattle.std.specs.List.{insert, remove}
 use Rattle.std.proofs.lemmas.List.{map-append, take-map, drop-map}
 use Rattle.std.proofs.Math.Seq.{take-length}
@@ -9,6 +9,9 @@ mapped_take f n xs = sym (take-map f n xs)
 
 pub mapped_drop : {X Y : Type 0} (f : X → Y) (n : ℕ) (xs : List X) → map f (drop n xs) ≡ drop n (map f xs)
 mapped_drop f n xs = sym (drop-map f n xs)
+
+pub mapped_push : {X Y : Type 0} (f : X → Y) (xs : List X) (x : X) → map f (xs ++ x ∷ []) ≡ map f xs ++ f x ∷ []
+mapped_push f xs x = map-append f xs (x ∷ [])
 
 pub mapped_insert : {X Y : Type 0} (f : X → Y) (xs : List X) (i : ℕ) (x : X) → map f (insert xs i x) ≡ insert (map f xs) i (f x)
 mapped_insert f xs i x =

@@ -1,5 +1,5 @@
 -- The documents that are open, and what is asked of all of them.
-use Rattle.std.specs.Prelude.{ℕ, ◌+◌, ◌-◌, if◌then◌else◌, nat_lt, List, ◌++◌, map, take, drop, Option}
+use Rattle.std.specs.Prelude.{ℕ, ◌+◌, ◌-◌, if◌then◌else◌, nat_lt, List, [], ◌∷◌, ◌++◌, map, take, drop, Option}
 use Rattle.std.specs.List.{insert, remove}
 use Rattle.serde_json.specs.Data.{Data}
 use Rattle.ref_draft.specs.declared.draft.Draft.{Draft}
@@ -33,6 +33,10 @@ with_asked d w =
 abbrev pub with_beside : Document → Workspace → Workspace
 with_beside d w =
     record w { documents = insert w.documents w.opened d; opened = w.opened + 1 }
+
+-- with another one that was retrieved
+abbrev pub with_retrieved : Document → Workspace → Workspace
+with_retrieved d w = record w { documents = w.documents ++ d ∷ [] }
 
 -- how many of the first are left without the one with a number
 abbrev pub count_without : ℕ → ℕ → ℕ

@@ -32,12 +32,23 @@ pub fn meant_document(
     let Some(close) = resources.close_uri(alloc, suggester, uri)? else {
         return Ok(None);
     };
+    if is_uri_of(workspace, source, close) {
+        return Ok(None);
+    }
     let (wanted, name) = tails(uri, close);
     let (folder, name) = match front.strip_suffix(wanted) {
         Some(folder) => (folder, name),
         None => ("", close),
     };
     Ok(Some([folder, name, hash, fragment].join(alloc, "")?))
+}
+
+// Whether a URI is that of the document with a number.
+fn is_uri_of(workspace: &Workspace, number: usize, uri: &str) -> bool {
+    match workspace.uri(number) {
+        Some(own) => own.as_str() == uri,
+        None => false,
+    }
 }
 
 // A pointer or the name of an anchor in the document itself whose `#` was forgotten.

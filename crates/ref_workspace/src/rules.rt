@@ -11,7 +11,7 @@ pub const RULES: &[Rule] = &[
     },
     Rule {
         code: "not-checked",
-        text: "The file is an API description, whose references are not checked",
+        text: "The file is an API description, of which only references in JSON Schema places are checked",
     },
     Rule {
         code: "guessed-draft",

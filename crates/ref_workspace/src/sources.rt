@@ -91,14 +91,15 @@ impl Workspace {
         report(alloc, self.draft(), own.as_slice(), others.as_slice())
     }
 
-    /// What [`Workspace::report`] lists, and after it which texts of retrieved documents mean no URI. Fails only if out of memory.
+    /// What [`Workspace::report`] lists, and after it which retrieved documents are no JSON, and which texts of them mean no URI. Fails
+    /// only if out of memory.
     pub fn full_report<'d>(&'d self, alloc: Global) -> Result<Report<'d>, AllocError> {
         let mut report = self.report(alloc)?;
         self.add_faults(alloc, &mut report.findings)?;
         Ok(report)
     }
 
-    // Adds which texts of retrieved documents mean no URI.
+    // Adds which retrieved documents are no JSON, and which texts of them mean no URI.
     fn add_faults<'d>(
         &'d self,
         alloc: Global,
@@ -110,7 +111,7 @@ impl Workspace {
         }
         let sources = sources_of(alloc, retrieved)?;
         for finding in report(alloc, self.draft(), sources.as_slice(), &[])?.findings {
-            if let Problem::InvalidUri(_) = &finding.problem {
+            if matches!(finding.problem, Problem::InvalidUri(_) | Problem::NotJson) {
                 let mut finding = finding;
                 finding.source = finding.source.saturating_add(self.opened());
                 push_finding(list, finding)?;

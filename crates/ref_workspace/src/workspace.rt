@@ -145,6 +145,18 @@ impl Workspace {
         Ok(())
     }
 
+    /// Adds a document that was retrieved, after all others that have a text. Fails only if out of memory, and then nothing is changed.
+    #[tactic(auto, using(crate::proofs::Opening::mapped_push))]
+    pub fn add_retrieved(&mut self, document: Document) -> Result<(), AllocError>
+        ensures ok { OnOk result
+            (workspace_of self.new
+            ≡ spec.with_retrieved (document_of document) (workspace_of self.old)) }
+        ensures err { OnErr result (workspace_of self.new ≡ workspace_of self.old) }
+    {
+        self.documents.push(document)?;
+        Ok(())
+    }
+
     /// Gives a name and a text to the document with a number, which was retrieved. Its value stays.
     pub fn set_file(&mut self, number: usize, name: String, text: String) {
         if let Some(document) = self.documents.get_mut(number) {

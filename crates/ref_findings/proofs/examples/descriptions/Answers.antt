@@ -5,4 +5,4 @@ use Rattle.ref_findings.proofs.examples.descriptions.Goals as goal
 
 pub returns : goal.returns
 unfolding world_on_literals is_meta_schema
-returns c = record { openapi = refl; other = refl }
+returns c = record { openapi = refl; no_text = refl; other = refl }
