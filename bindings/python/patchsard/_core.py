@@ -3,13 +3,10 @@ from __future__ import annotations
 
 import json
 import weakref
-from typing import TYPE_CHECKING, Any, Callable, Dict, Iterable, Iterator, List, Mapping, NamedTuple, Optional, Sequence, Set, Tuple, TypeVar, Union, overload
+from typing import Any, Callable, Dict, Iterable, Iterator, List, Literal, Mapping, NamedTuple, Optional, Sequence, Set, Tuple, TypeVar, Union, overload
 
 from patchsard import _process
 from patchsard.exceptions import CallRefused, CannotDetermineSpecification, NoInternalID, NoSuchAnchor, NoSuchResource, ProcessEnded, Unresolvable, Unretrievable, from_answer
-
-if TYPE_CHECKING:
-    from typing_extensions import Literal
 
 Schema = Any
 Pairs = Iterable[Tuple[str, Any]]
@@ -795,7 +792,7 @@ class Resolver:
         return self._lookup(ref)
 
     @overload
-    def lookup_all(self, refs: Iterable[str], return_exceptions: "Literal[False]" = False) -> List[Resolved]: ...
+    def lookup_all(self, refs: Iterable[str], return_exceptions: Literal[False] = False) -> List[Resolved]: ...
 
     @overload
     def lookup_all(self, refs: Iterable[str], return_exceptions: bool) -> List[Union[Resolved, Unresolvable]]: ...
