@@ -140,7 +140,7 @@ class Process:
     def _exchange(self, line: bytes, until: Optional[float] = None) -> bytes:
         if self._is_amid and not self.ended:
             # A call before this one was interrupted, and its answer would be taken for that of this one.
-            self._end()
+            self._end(is_answering=True)
         if self.ended:
             raise ProcessEnded("The program patchsard has ended")
         try:
@@ -160,8 +160,9 @@ class Process:
             return answer
         except BaseException as error:
             # What is half written or unread would be taken for part of the next call.
-            self._end()
-            if isinstance(error, (OSError, EOFError)) and not isinstance(error, CallTimedOut):
+            has_ended = isinstance(error, (OSError, EOFError)) and not isinstance(error, CallTimedOut)
+            self._end(is_answering=not has_ended)
+            if has_ended:
                 raise ProcessEnded(f"{self._program} has ended, with status {self._popen.returncode}, while it was asked") from error
             raise
 
@@ -175,9 +176,9 @@ class Process:
             parts.append(os.read(self._output, _MOST))
         return b"".join(parts)
 
-    def _end(self) -> None:
+    def _end(self, is_answering: bool = False) -> None:
         self.ended = True
-        if self._is_amid:
+        if is_answering:
             # It would say on standard error that its answer can't be written.
             self._popen.kill()
         self._close_pipes()
