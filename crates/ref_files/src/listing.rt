@@ -165,8 +165,10 @@ impl<'r> Listing<'r> {
             if passed > 0 && !rest.starts_with('/') {
                 continue;
             }
-            if let Ok(real) = fs::canonicalize(self.rt, front.unwrap_or("")) {
-                return self.input_below(real.into_string(), rest);
+            match fs::canonicalize(self.rt, front.unwrap_or("")) {
+                Ok(real) => return self.input_below(real.into_string(), rest),
+                Err(error) if error.kind() == io::ErrorKind::OutOfMemory => return Err(error),
+                Err(_) => {}
             }
         }
         let folder = if input.starts_with('/') { "/" } else { "." };
