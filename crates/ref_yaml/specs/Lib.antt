@@ -5,4 +5,5 @@ pub mod Passing
 pub mod Scalars
 pub mod Events
 pub mod Core
+pub mod Values
 pub mod Rows

@@ -1,4 +1,9 @@
 //! The value that events are.
+ghost use Rattle.std.specs.Prelude.{◌≡◌, true, IfOk, IfSome};
+ghost use Rattle.std.specs.List.{slice_get};
+ghost use Rattle.serde_json.specs.View.{view};
+ghost use Rattle.ref_yaml.specs.Values.{IsOfKind, is_array, is_object};
+
 use crate::core_schema::{fits, fits_list, plain_value};
 use crate::event::{Event, Kind, Tag};
 use crate::fault::{Fault, Stop};
@@ -23,6 +28,18 @@ fn insert(members: &mut Map<String, Value>, name: String, value: Value) -> Resul
     Ok(())
 }
 
+fn array_of(items: Vec<Value>) -> Value
+    ensures kind { is_array (view result) ≡ true }
+{
+    Value::Array(items)
+}
+
+fn object_of(members: Map<String, Value>) -> Value
+    ensures kind { is_object (view result) ≡ true }
+{
+    Value::Object(members)
+}
+
 // Whether a scalar is a text, whatever it says.
 fn is_text(event: &Event) -> bool {
     match event.tag {
@@ -33,7 +50,9 @@ fn is_text(event: &Event) -> bool {
 }
 
 impl Builder<'_> {
-    fn event(&self, index: usize) -> Event {
+    fn event(&self, index: usize) -> Event
+        ensures value { IfSome (slice_get self.now.events.now index) (λ e. result ≡ e) }
+    {
         match self.events.get(index) {
             Some(event) => *event,
             None => Event::empty(0),
@@ -49,7 +68,10 @@ impl Builder<'_> {
 
     /// The value that begins at an index, nested at most `depth` deep.
     #[cycle(value)]
-    pub(crate) fn value(&self, index: usize, depth: usize) -> Result<Value, Stop> {
+    pub(crate) fn value(&self, index: usize, depth: usize) -> Result<Value, Stop>
+        ensures kind { IfOk result (λ v. IfSome (slice_get self.now.events.now index)
+            (λ e. IsOfKind e (view v))) }
+    {
         let event = self.event(index);
         match event.kind {
             Kind::BeginArray | Kind::BeginObject if depth == 0 => {
@@ -75,7 +97,9 @@ impl Builder<'_> {
     }
 
     #[cycle(value)]
-    fn array(&self, index: usize, depth: usize) -> Result<Value, Stop> {
+    fn array(&self, index: usize, depth: usize) -> Result<Value, Stop>
+        ensures kind { IfOk result (λ v. is_array (view v) ≡ true) }
+    {
         let event = self.event(index);
         if !fits_list(&event, Tag::Array) {
             return Err(Stop::At(Fault::Tag, event.start));
@@ -90,11 +114,13 @@ impl Builder<'_> {
             push(&mut items, value)?;
             at = self.after(at);
         }
-        Ok(Value::Array(items))
+        Ok(array_of(items))
     }
 
     #[cycle(value)]
-    fn object(&self, index: usize, depth: usize) -> Result<Value, Stop> {
+    fn object(&self, index: usize, depth: usize) -> Result<Value, Stop>
+        ensures kind { IfOk result (λ v. is_object (view v) ≡ true) }
+    {
         let event = self.event(index);
         if !fits_list(&event, Tag::Object) {
             return Err(Stop::At(Fault::Tag, event.start));
@@ -111,7 +137,7 @@ impl Builder<'_> {
             self.put(&mut members, &key, value)?;
             at = self.after(after);
         }
-        Ok(Value::Object(members))
+        Ok(object_of(members))
     }
 
     // Adds a member whose key isn't there yet.

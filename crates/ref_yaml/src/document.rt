@@ -1,6 +1,9 @@
 //! A text of one document.
-ghost use Rattle.std.specs.Prelude.{◌≡◌, ◌+◌, ◌-◌, Some, All, IfOk, length, string_bytes};
-ghost use Rattle.ref_yaml.specs.Events.{IsWithin};
+ghost use Rattle.std.specs.Prelude.{◌≡◌, ◌+◌, ◌-◌, Some, All, IfOk, IfErr, IfSome, length, string_bytes, ◌<◌};
+ghost use Rattle.std.specs.List.{slice_get};
+ghost use Rattle.serde_json.specs.View.{view};
+ghost use Rattle.ref_yaml.specs.Values.{IsOfKind};
+ghost use Rattle.ref_yaml.specs.Events.{IsWithin, IsStopWithin};
 ghost use Rattle.ref_yaml.specs.Scalars as spec;
 ghost use Rattle.ref_yaml.specs.declared.event.Kind.TheVariants.{Plain, SingleQuoted, DoubleQuoted, Literal, Folded};
 
@@ -24,6 +27,7 @@ pub struct Document<'t> {
     events: Vec<Event>,
     leniencies: Vec<Leniency>,
     ghost within: { All (IsWithin (length text.now)) events.items },
+    ghost some: { 0 < length events.items },
 }
 
 /// The value of a text of one document of YAML 1.2.2. An empty one is null.
@@ -31,8 +35,13 @@ pub struct Document<'t> {
 /// Of an object each key is a text that comes once; a number is read as `serde_json` reads it. An error is memory, or what
 /// is wrong and its offset in bytes. Linear in the text, but for aliases: they may make ten parts for each byte, and a
 /// million at least, each of eight bytes of text at most.
-pub fn from_str(alloc: Global, text: &str) -> Result<Value, Stop> {
-    Document::parse(alloc, text)?.value(alloc)
+pub fn from_str(alloc: Global, text: &str) -> Result<Value, Stop>
+    ensures fault { IfErr result (λ stop. IsStopWithin (length text.now) stop) }
+{
+    match Document::parse(alloc, text) {
+        Ok(document) => document.value(alloc),
+        Err(stop) => Err(stop),
+    }
 }
 
 // The events of a text with what aliases mean in their place.
@@ -47,7 +56,19 @@ impl<'t> Document<'t> {
     ///
     /// An error is memory, or what is wrong in its structure and where. What is wrong in a scalar, as an escape or a
     /// number, and a key that comes twice, [`Document::value`] finds. Linear in the text, but for aliases, as [`from_str`].
-    pub fn parse(alloc: Global, text: &'t str) -> Result<Document<'t>, Stop> {
+    pub fn parse(alloc: Global, text: &'t str) -> Result<Document<'t>, Stop>
+        ensures text { IfOk result (λ document. document.text.now ≡ text.now) }
+        ensures fault { IfErr result (λ stop. IsStopWithin (length text.now) stop) }
+    {
+        match Document::read(alloc, text) {
+            Ok(document) => Ok(document),
+            Err(stop) => Err(stop.within(text.len())),
+        }
+    }
+
+    fn read(alloc: Global, text: &'t str) -> Result<Document<'t>, Stop>
+        ensures text { IfOk result (λ document. document.text.now ≡ text.now) }
+    {
         if let Some(at) = control_in(text) {
             return Err(Stop::At(Fault::Character, at));
         }
@@ -72,8 +93,10 @@ impl<'t> Document<'t> {
         text: &'t str,
         events: Vec<Event>,
         leniencies: Vec<Leniency>,
-    ) -> Result<Document<'t>, Stop> {
-        if !are_within(events.as_slice(), text.len()) {
+    ) -> Result<Document<'t>, Stop>
+        ensures text { IfOk result (λ document. document.text.now ≡ text.now) }
+    {
+        if events.is_empty() || !are_within(events.as_slice(), text.len()) {
             return Err(Stop::At(Fault::Offsets, 0));
         }
         Ok(Document {
@@ -87,6 +110,7 @@ impl<'t> Document<'t> {
     /// text. It has one value: a scalar, or all from a beginning to its end.
     pub fn events(&self) -> &[Event]
         ensures within { All (IsWithin (length self.now.text.now)) result.now }
+        ensures some { 0 < length result.now }
     {
         self.events.as_slice()
     }
@@ -115,13 +139,20 @@ impl<'t> Document<'t> {
 
     /// Its value, by the core schema (10.3.2). An error is memory; a key that comes twice in an object; a number that JSON
     /// doesn't have; an escape that there isn't; or a tag that its value doesn't fit. Linear in the events and their texts.
-    pub fn value(&self, alloc: Global) -> Result<Value, Stop> {
+    pub fn value(&self, alloc: Global) -> Result<Value, Stop>
+        ensures kind { IfOk result (λ v. IfSome (slice_get self.now.events.items 0)
+            (λ e. IsOfKind e (view v))) }
+        ensures fault { IfErr result (λ stop. IsStopWithin (length self.now.text.now) stop) }
+    {
         let builder = Builder {
             alloc,
             text: self.text,
             events: self.events.as_slice(),
         };
-        builder.value(0, 127)
+        match builder.value(0, 127) {
+            Ok(value) => Ok(value),
+            Err(stop) => Err(stop.within(self.text.len())),
+        }
     }
 }
 

@@ -1,4 +1,7 @@
 //! Why a text isn't read.
+ghost use Rattle.std.specs.Prelude.{◌≡◌};
+ghost use Rattle.ref_yaml.specs.Events.{IsStopWithin};
+
 use std::alloc::{AllocError, AllocFailed};
 
 /// Why there is no result: memory, or what is wrong in the text, and its offset in bytes.
@@ -8,6 +11,18 @@ pub enum Stop {
     Memory,
     /// What is wrong, and where.
     At(Fault, usize),
+}
+
+impl Stop {
+    // It, with its offset within a text of so many bytes.
+    pub(crate) fn within(self, len: usize) -> Stop
+        ensures value { IsStopWithin len result }
+    {
+        match self {
+            Stop::Memory => Stop::Memory,
+            Stop::At(fault, offset) => Stop::At(fault, offset.min(len)),
+        }
+    }
 }
 
 /// What is wrong in a text. The numbers are sections of YAML 1.2.2.
