@@ -34,6 +34,7 @@ enum Word {
     With,
     StdinPath,
     Exclude,
+    Yaml,
     Verbose,
     Format,
     Language,
@@ -89,7 +90,9 @@ fn without_subcommands<'c>(alloc: Global) -> Result<Command<'c>, AllocError> {
     Command::new(alloc, "patchsard")
         .version("0.1.0")
         .propagate_version(true)
-        .about("Lints, follows, bundles, lists and draws the references of JSON Schema files")
+        .about(
+            "Lints, follows, bundles, lists and draws the references of JSON Schema files, in JSON or YAML",
+        )
         .arg_required_else_help(true)
         .bin_name("patchsard")?
         .arg(arg_of(alloc, Word::Directory))
@@ -135,7 +138,7 @@ fn about<'c>(subcommand: Subcommand) -> &'c str {
         Subcommand::Lint => "Lists what is wrong with the references of schema files",
         Subcommand::Resolve => "Follows one reference from a place of a file",
         Subcommand::Bundle =>
-            "Writes a schema file with all documents that it needs as one document",
+            "Writes a schema file with all documents that it needs as one document of JSON",
         Subcommand::Places => {
             "Lists each subschema of schema files: file, line and column, pointer, draft, base URI, identifier and anchors"
         }
@@ -156,10 +159,10 @@ fn status_of<'c>(subcommand: Subcommand) -> &'c str {
             "Exit status: 0 where the reference leads to a value, 1 where it doesn't, 2 where a path can't be read or the command line is wrong."
         }
         Subcommand::Places => {
-            "Exit status: 0 where all files are listed, 1 where one is no JSON, 2 where a path can't be read or the command line is wrong."
+            "Exit status: 0 where all files are listed, 1 where one is neither JSON nor YAML, 2 where a path can't be read or the command line is wrong."
         }
         Subcommand::Graph => {
-            "Exit status: 0 where all files are drawn, 1 where one is no JSON, 2 where a path can't be read or the command line is wrong."
+            "Exit status: 0 where all files are drawn, 1 where one is neither JSON nor YAML, 2 where a path can't be read or the command line is wrong."
         }
         Subcommand::Bundle => {
             "Exit status: 0 where the bundle is written, 1 where there is none, 2 where a path can't be read or written or the command line is wrong, 3 where the text that was made isn't that of the bundle."
@@ -178,6 +181,7 @@ fn words_of(subcommand: Subcommand) -> &'static [Word] {
             Word::With,
             Word::Exclude,
             Word::StdinPath,
+            Word::Yaml,
             Word::Verbose,
             Word::Format,
             Word::Base,
@@ -190,6 +194,7 @@ fn words_of(subcommand: Subcommand) -> &'static [Word] {
             Word::From,
             Word::With,
             Word::StdinPath,
+            Word::Yaml,
             Word::Base,
             Word::Draft,
             Word::Map,
@@ -197,6 +202,7 @@ fn words_of(subcommand: Subcommand) -> &'static [Word] {
         Subcommand::Bundle => &[
             Word::RootFile,
             Word::With,
+            Word::Yaml,
             Word::Output,
             Word::Minify,
             Word::Strict,
@@ -207,6 +213,7 @@ fn words_of(subcommand: Subcommand) -> &'static [Word] {
         Subcommand::Places => &[
             Word::Paths,
             Word::Exclude,
+            Word::Yaml,
             Word::Base,
             Word::Draft,
             Word::Map,
@@ -214,6 +221,7 @@ fn words_of(subcommand: Subcommand) -> &'static [Word] {
         Subcommand::Graph => &[
             Word::Paths,
             Word::Exclude,
+            Word::Yaml,
             Word::Language,
             Word::Connected,
             Word::Base,
@@ -280,7 +288,7 @@ fn row_of<'c>(word: Word) -> Row<'c> {
             "paths",
             "PATH",
             Kind::Places,
-            "A file, or a folder: all files below it that end in .json, without hidden folders and links; or - for standard input",
+            "A file, or a folder: all files below it that end in .json, and those in .yaml or .yml that have $schema, $id, id, openapi or swagger at their roots or are referred to, without hidden folders and links; or - for standard input",
         ),
         Word::ReferringFile => named(
             "file",
@@ -316,7 +324,7 @@ fn row_of<'c>(word: Word) -> Row<'c> {
             "stdin-path",
             "PATH",
             Kind::Value,
-            "The path that standard input counts as, in messages and for its URI; the file needn't be there",
+            "The path that standard input counts as, in messages, for its URI and for its format; the file needn't be there",
         ),
         Word::Exclude => named(
             "exclude",
@@ -324,11 +332,17 @@ fn row_of<'c>(word: Word) -> Row<'c> {
             Kind::Values,
             "Leave out this file, or what is below this folder; may be repeated",
         ),
+        Word::Yaml => named(
+            "yaml",
+            "",
+            Kind::Flag,
+            "Read each file below a folder that ends in .yaml or .yml",
+        ),
         Word::Verbose => named(
             "verbose",
             "",
             Kind::Flag,
-            "Also list references that were not checked",
+            "Also list references that were not checked, and say what is read though YAML 1.2 does not have it",
         ),
         Word::Format => named("format", "FORMAT", Kind::Value, "How findings are printed"),
         Word::Language => named(

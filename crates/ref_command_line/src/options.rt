@@ -59,6 +59,7 @@ fn selection_of<'a>(alloc: Global, given: &ArgMatches<'a>) -> Result<Selection<'
         with,
         excluded,
         input,
+        has_yaml: given.get_flag("yaml"),
     })
 }
 

@@ -5,7 +5,7 @@ use clap::ArgMatches;
 use ref_bundle::{Bundle, Embedded};
 use ref_command_line::{Console, Stop, say, say_failures, say_of};
 use ref_draft::Draft;
-use ref_files::{WriteError, parsed, write_file};
+use ref_files::{Format, WriteError, parsed, write_file};
 use ref_findings::{Finding, Problem};
 use ref_index::Place;
 use ref_messages::{Level, Plain, push_text};
@@ -105,6 +105,7 @@ impl<'s, 'a, 'd, 'm, 'w, 'o> Sources<'s, 'a, 'd, 'm, 'w, 'o> {
             return Ok(3);
         };
         self.say_uri(bundle);
+        self.say_format();
         match self.given.get_str("output") {
             Some(path) if !is_output(path) => {
                 status_of(self.rt, write_file(self.rt, path, text.as_str()))
@@ -279,6 +280,16 @@ impl<'s, 'a, 'd, 'm, 'w, 'o> Sources<'s, 'a, 'd, 'm, 'w, 'o> {
         }
     }
 
+    // Says that a bundle is JSON where its root is a file of YAML.
+    fn say_format(&self) {
+        if self.opened.workspace.format(0) == Format::Yaml {
+            let _ = eprintln!(self.rt;
+                "patchsard: note: {} is YAML: the bundle is JSON, with the members of its objects in byte order of their keys, and without comments",
+                Plain(self.opened.workspace.name(0))
+            );
+        }
+    }
+
     // Which of what was read is needed.
     fn needed(&self, bundle: &Bundle) -> Result<Vec<bool>, AllocError> {
         let mut needed = vec![in self.rt.alloc(); false; self.opened.workspace.len()]?;
@@ -356,15 +367,15 @@ impl<'s, 'a, 'd, 'm, 'w, 'o> Sources<'s, 'a, 'd, 'm, 'w, 'o> {
 
     // The text of the root, with a `$schema` where it gets one, with those of the documents that are embedded.
     fn spliced(&self, bundle: &Bundle, schema: Option<&str>) -> Result<Option<String>, Stop> {
-        let Some(root) = self.opened.workspace.documents().first() else {
+        let Some(root) = self.json_in(0)? else {
             return Ok(None);
         };
         match schema {
-            Some(schema) => match root_with(self.rt.alloc(), root.text.text.as_str(), schema)? {
+            Some(schema) => match root_with(self.rt.alloc(), root.as_str(), schema)? {
                 Some(root) => self.with_embedded(bundle, root.as_str()),
                 None => Ok(None),
             },
-            None => self.with_embedded(bundle, root.text.text.as_str()),
+            None => self.with_embedded(bundle, root.as_str()),
         }
     }
 
@@ -424,15 +435,39 @@ impl<'s, 'a, 'd, 'm, 'w, 'o> Sources<'s, 'a, 'd, 'm, 'w, 'o> {
     // The text of a document that was read.
     fn source_text(&self, document: usize) -> Result<Option<String>, Stop> {
         match self.source(document) {
-            Some(number) => self.text_in(number),
+            Some(number) => self.json_in(number),
             None => Ok(None),
         }
     }
 
-    /// The text of what was read with this number. That of a document from a map is read again.
-    pub fn text_in(&self, number: usize) -> Result<Option<String>, Stop> {
+    // What was read with this number as a text of JSON: its own, or of YAML that of its value.
+    fn json_in(&self, number: usize) -> Result<Option<String>, Stop> {
+        match self.text_in(number)? {
+            Some((Format::Json, text)) => Ok(Some(text)),
+            Some((Format::Yaml, text)) => {
+                drop(text);
+                self.printed(number)
+            }
+            None => Ok(None),
+        }
+    }
+
+    // The text of the value of what was read with this number, on lines.
+    fn printed(&self, number: usize) -> Result<Option<String>, Stop> {
+        match self.opened.workspace.value(number) {
+            Some(value) => {
+                let mut text = value.to_string_pretty(self.rt.alloc())?;
+                text.push('\n')?;
+                Ok(Some(text))
+            }
+            None => Ok(None),
+        }
+    }
+
+    /// The text of what was read with this number, and how it is written. That of a document from a map is read again.
+    pub fn text_in(&self, number: usize) -> Result<Option<(Format, String)>, Stop> {
         if let Some(document) = self.opened.workspace.documents().get(number) {
-            return Ok(Some(document.text.text.clone()?));
+            return Ok(Some((document.text.format, document.text.text.clone()?)));
         }
         match self.opened.workspace.uri(number) {
             Some(uri) => self.mapped_text(uri.as_str()),
@@ -441,10 +476,19 @@ impl<'s, 'a, 'd, 'm, 'w, 'o> Sources<'s, 'a, 'd, 'm, 'w, 'o> {
     }
 
     // The text of a document from a map.
-    fn mapped_text(&self, uri: &str) -> Result<Option<String>, Stop> {
-        let text = self.opened.maps.text(self.rt.alloc(), uri)?;
+    fn mapped_text(&self, uri: &str) -> Result<Option<(Format, String)>, Stop> {
+        let alloc = self.rt.alloc();
+        let Some(path) = self.opened.maps.path_of(alloc, uri)? else {
+            return Ok(None);
+        };
+        let format = Format::of_path(path.as_str());
+        drop(path);
+        let text = self.opened.maps.text(alloc, uri)?;
         say_failures(self.rt, &self.opened.maps.take_failures());
-        Ok(text)
+        match text {
+            Some(text) => Ok(Some((format, text))),
+            None => Ok(None),
+        }
     }
 
     // Adds the message on the finding at a place, with a level.

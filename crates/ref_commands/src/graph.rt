@@ -6,7 +6,7 @@ use ref_command_line::{Console, Stop};
 use ref_messages::{push_dot, push_mermaid};
 use ref_workspace::{Workspace, graph_of};
 
-/// Draws which file refers to which. The status is 0, 1 where a file is no JSON, or 2 where a path couldn't be read.
+/// Draws which file refers to which. The status is 0, 1 where a file is neither JSON nor YAML, or 2 where a path couldn't be read.
 pub fn graph(
     rt: &HostRuntime,
     console: &mut Console<'_>,

@@ -1,9 +1,10 @@
 //! Files whose places and references aren't looked at.
-use ref_files::Fault;
+use ref_files::{Fault, Format, leniencies_of};
 use ref_messages::Plain;
 use ref_workspace::Document;
+use std::alloc::AllocError;
 
-/// Says which files are no JSON, where and why, and returns whether one is none.
+/// Says which files are neither JSON nor YAML, where and why, and returns whether one is none.
 pub fn say_broken(rt: &HostRuntime, documents: &[Document]) -> bool {
     let mut is_any = false;
     for document in documents {
@@ -15,7 +16,19 @@ pub fn say_broken(rt: &HostRuntime, documents: &[Document]) -> bool {
     is_any
 }
 
-/// Says where and why a file is no JSON.
+/// Says what was read of files of YAML though YAML 1.2 doesn't have it.
+pub fn say_leniencies(rt: &HostRuntime, documents: &[Document]) -> Result<(), AllocError> {
+    for document in documents {
+        if document.text.format == Format::Yaml {
+            for told in &leniencies_of(rt.alloc(), document.text.text.as_str())? {
+                say_fault(rt, document, told);
+            }
+        }
+    }
+    Ok(())
+}
+
+/// Says where and why a file has no value, or what else is to be said of its text.
 pub fn say_fault(rt: &HostRuntime, document: &Document, fault: &Fault) {
     let _ = eprintln!(rt;
         "patchsard: {}:{}:{}: {}",

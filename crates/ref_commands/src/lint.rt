@@ -1,5 +1,5 @@
 //! `patchsard lint`.
-use crate::left_out::say_broken;
+use crate::left_out::{say_broken, say_leniencies};
 use crate::message::message_at;
 use crate::opened::{Opened, open_given};
 use clap::ArgMatches;
@@ -27,7 +27,7 @@ struct Count {
     errors: usize,
     warnings: usize,
     notes: usize,
-    // How many files are no JSON, or are descriptions whose references aren't checked.
+    // How many files are neither JSON nor YAML, or are descriptions whose references aren't checked.
     unread: usize,
 }
 
@@ -47,19 +47,22 @@ pub fn lint(
     say_broken(rt, others.unwrap_or(&[]));
     let other_roots = other_roots_in(workspace.asked_about());
     let is_verbose = given.get_flag("verbose");
+    if is_verbose {
+        say_leniencies(rt, workspace.documents())?;
+    }
     let listed = list_all(rt, console, form_of(given), is_verbose, &opened);
-    let has_failed = opened.has_failed;
+    let (has_failed, passed) = (opened.has_failed, opened.passed);
     let files = opened.keep();
     let Some(count) = count_of(listed)? else {
         console.out.clear();
         return Ok(1);
     };
-    summary(rt, files, count)?;
+    summary(rt, files, count, passed)?;
     print_time(rt, begin);
     let unread = count.unread.saturating_add(other_roots);
     let is_looked_at = files > unread || count.references > 0;
     if !is_looked_at && !has_failed {
-        say_nothing(rt, files);
+        say_nothing(rt, files, passed);
     }
     Ok(status_of(count, is_looked_at, has_failed))
 }
@@ -85,18 +88,23 @@ fn status_of(count: Count, is_looked_at: bool, has_failed: bool) -> u8 {
 }
 
 // Says that no reference was looked at, which is no all-clear.
-fn say_nothing(rt: &HostRuntime, files: usize) {
-    if files == 0 {
+fn say_nothing(rt: &HostRuntime, files: usize, passed: usize) {
+    if files == 0 && passed > 0 {
         say(
             rt,
-            "no file was found: a path is a file, or a folder with files whose names end in .json",
+            "each file was passed over: of YAML below a folder those are read that have $schema, $id, id, openapi or swagger at their roots; name a file to read it, or read all by --yaml",
+        );
+    } else if files == 0 {
+        say(
+            rt,
+            "no file was found: a path is a file, or a folder with files whose names end in .json, .yaml or .yml",
         );
     } else {
         say(rt, "nothing was looked at in any of these files");
     }
 }
 
-// How many documents are JSON whose root is neither an object nor a boolean, and so no schema.
+// How many documents have a root that is neither an object nor a boolean, and so no schema.
 fn other_roots_in(documents: &[Document]) -> usize {
     let mut count: usize = 0;
     for document in documents {
@@ -109,7 +117,7 @@ fn other_roots_in(documents: &[Document]) -> usize {
     count
 }
 
-// How many sources are no JSON, or descriptions whose references aren't checked.
+// How many sources have no value, or are descriptions whose references aren't checked.
 fn unread_in(findings: &[Finding<'_>]) -> usize {
     let mut count: usize = 0;
     for finding in findings {
@@ -249,7 +257,7 @@ impl Count {
 }
 
 // The last line on standard error, but for the time.
-fn summary(rt: &HostRuntime, files: usize, count: Count) -> Result<(), Stop> {
+fn summary(rt: &HostRuntime, files: usize, count: Count, passed: usize) -> Result<(), Stop> {
     let mut line = String::new(rt.alloc());
     push_count(&mut line, files, "file")?;
     line.push_str(", ")?;
@@ -260,6 +268,11 @@ fn summary(rt: &HostRuntime, files: usize, count: Count) -> Result<(), Stop> {
     push_count(&mut line, count.warnings, "warning")?;
     line.push_str(", ")?;
     push_count(&mut line, count.notes, "note")?;
+    if passed > 0 {
+        line.push_str(", ")?;
+        push_count(&mut line, passed, "YAML file")?;
+        line.push_str(" passed over")?;
+    }
     let _ = eprint!(rt; "{line}");
     Ok(())
 }

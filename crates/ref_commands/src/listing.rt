@@ -35,7 +35,7 @@ fn push_located(
     asked: &mut Places,
 ) -> Result<(), AllocError> {
     let numbers = numbers_of(alloc, asked, places)?;
-    let located = asked.locate(alloc, document.text.text.as_str())?;
+    let located = asked.locate(alloc, document.text.format, document.text.text.as_str())?;
     for (place, number) in places.iter().zip(numbers.iter()) {
         let position = located.value(*number);
         push_place(alloc, out, document, place, position)?;

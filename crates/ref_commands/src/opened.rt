@@ -3,7 +3,7 @@ use clap::ArgMatches;
 use ref_command_line::options::{maps, reading_of, say_unused};
 use ref_command_line::{Reading, Stop, say, say_failures};
 use ref_error::Error;
-use ref_files::{BrokenFile, Listed, Maps, ReadFile, list_files, list_one, read_all};
+use ref_files::{BrokenFile, Format, Listed, Maps, ReadFile, list_files, list_one, read_all};
 use ref_messages::Plain;
 use ref_workspace::{Document, Workspace};
 use std::alloc::AllocError;
@@ -19,6 +19,8 @@ pub struct Opened<'r> {
     pub maps: Maps<'r>,
     /// Whether a path couldn't be read, which standard error says.
     pub has_failed: bool,
+    /// How many files of YAML below folders were passed over.
+    pub passed: usize,
 }
 
 /// Opens the files that a command line names, and those of `--with`.
@@ -61,6 +63,7 @@ fn open_listed<'r>(
         paths: Vec::new(rt.alloc()),
         maps,
         has_failed,
+        passed: read.passed.len(),
     };
     for file in read.files {
         opened.open(file)?;
@@ -107,7 +110,7 @@ impl Opened<'_> {
         Ok(())
     }
 
-    // Adds a retrieved file that is no JSON.
+    // Adds a retrieved file that has no value.
     fn add_broken(&mut self, file: BrokenFile) -> Result<(), AllocError> {
         let BrokenFile { uri, path, text } = file;
         let name = path.clone()?;
@@ -132,8 +135,9 @@ impl Opened<'_> {
         };
         say_failures(rt, &self.maps.take_failures());
         let name = path.clone()?;
+        let format = Format::of_path(path.as_str());
         self.paths.push(path)?;
-        self.workspace.set_file(number, name, text);
+        self.workspace.set_file(number, name, format, text);
         Ok(())
     }
 }

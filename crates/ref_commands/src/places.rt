@@ -4,6 +4,7 @@ use crate::listing::push_document;
 use crate::opened::{open_given, reported};
 use clap::ArgMatches;
 use ref_command_line::{Console, Stop, say_of};
+use ref_files::Format;
 use ref_index::Place;
 use ref_workspace::world::world_of;
 use ref_workspace::{Document, Workspace, World};
@@ -38,7 +39,10 @@ fn report_left_out(rt: &HostRuntime, documents: &[Document]) -> u8 {
     let mut status = 0;
     for document in documents {
         if document.value().is_none() {
-            let why = "left out, since it is no JSON: see patchsard lint";
+            let why = match document.text.format {
+                Format::Json => "left out, since it is no JSON: see patchsard lint",
+                Format::Yaml => "left out, since it is no YAML: see patchsard lint",
+            };
             say_of(rt, document.name.as_str(), why);
             status = 1;
         }

@@ -131,8 +131,8 @@ impl<'s, 'a, 'd, 'm, 'w, 'o> Sources<'s, 'a, 'd, 'm, 'w, 'o> {
         let alloc = self.rt.alloc();
         let name = Plain(self.opened.workspace.name(number));
         match self.text_in(number)? {
-            Some(text) => {
-                let (line, column) = position(alloc, text.as_str(), path)?;
+            Some((format, text)) => {
+                let (line, column) = position(alloc, (format, text.as_str()), path)?;
                 Ok(format!(in alloc; "{name}:{line}:{column}")?)
             }
             None => Ok(format!(in alloc; "{name}")?),

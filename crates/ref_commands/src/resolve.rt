@@ -157,7 +157,7 @@ impl Asked<'_, '_> {
         Ok(())
     }
 
-    // Says that a document is no JSON, or has faults.
+    // Says that a document has no value, or has faults.
     fn say_broken(&self, number: usize) {
         if let Some(document) = self.opened.workspace.documents().get(number) {
             if let Some(fault) = document.text.fault() {

@@ -82,7 +82,10 @@ fn place_in(
         return Ok(None);
     };
     match path_to(alloc, document.value(), pointer)? {
-        Some(path) => Ok(Some(position(alloc, document.text.text.as_str(), path.as_slice())?)),
+        Some(path) => {
+            let text = (document.text.format, document.text.text.as_str());
+            Ok(Some(position(alloc, text, path.as_slice())?))
+        }
         None => Ok(None),
     }
 }

@@ -1,6 +1,7 @@
 //! The files that paths name, and those below folders.
 use crate::failure::Failures;
 use crate::path::last_name;
+use ref_positions::Format;
 use simdutf8::compat::from_utf8;
 use std::alloc::{AllocError, Global};
 use std::collections::BTreeMap;
@@ -19,6 +20,8 @@ pub struct Selection<'a> {
     pub excluded: Vec<&'a str>,
     /// The path that standard input counts as.
     pub input: &'a str,
+    /// Whether each file of YAML below a folder is read.
+    pub has_yaml: bool,
 }
 
 /// The files that were found, and what is to be said of those that were not.
@@ -45,6 +48,8 @@ pub struct File {
     pub is_input: bool,
     /// Whether it is asked about, and not only read.
     pub is_own: bool,
+    /// Whether it is read only where its root says what it is, or something refers to it: a file of YAML below a folder.
+    pub is_optional: bool,
 }
 
 // A folder whose files are to be listed.
@@ -78,13 +83,15 @@ struct Listing<'r> {
     input: String,
     // Whether what is added is asked about, and not only read.
     is_own: bool,
+    // Whether each file of YAML below a folder is read.
+    has_yaml: bool,
     failures: Failures,
 }
 
 impl<'r> Listing<'r> {
     // No files.
-    fn new(rt: &'r HostRuntime, input: &str) -> Result<Listing<'r>, AllocError> {
-        let input = String::from_str(rt.alloc(), input)?;
+    fn new(rt: &'r HostRuntime, selection: &Selection<'_>) -> Result<Listing<'r>, AllocError> {
+        let input = String::from_str(rt.alloc(), selection.input)?;
         Ok(Listing {
             rt,
             files: BTreeMap::new(rt.alloc()),
@@ -92,6 +99,7 @@ impl<'r> Listing<'r> {
             excluded: Vec::new(rt.alloc()),
             input,
             is_own: true,
+            has_yaml: selection.has_yaml,
             failures: Failures::new(rt.alloc()),
         })
     }
@@ -137,7 +145,7 @@ impl<'r> Listing<'r> {
             return self.add_folder(path, real);
         }
         let below = String::from_str(self.rt.alloc(), last_name(real.as_str()))?;
-        self.add_file(path, real, below)
+        self.add_file(path, real, below, false)
     }
 
     // Adds standard input, in place of the file whose path it counts as.
@@ -153,7 +161,14 @@ impl<'r> Listing<'r> {
         let alloc = self.rt.alloc();
         let below = String::from_str(alloc, last_name(path.as_str()))?;
         let shown = self.input.clone()?;
-        self.put(shown, path, below, true)
+        self.put(File {
+            shown,
+            path,
+            below,
+            is_input: true,
+            is_own: self.is_own,
+            is_optional: false,
+        })
     }
 
     // The absolute path that standard input counts as: neither its file nor its folders need be there.
@@ -219,42 +234,40 @@ impl<'r> Listing<'r> {
         is_excluded
     }
 
-    fn add_file(&mut self, shown: &str, path: String, below: String) -> Result<(), AllocError> {
+    fn add_file(
+        &mut self,
+        shown: &str,
+        path: String,
+        below: String,
+        is_optional: bool,
+    ) -> Result<(), AllocError> {
         if self.is_excluded(path.as_str()) {
             return Ok(());
         }
         let shown = String::from_str(self.rt.alloc(), shown)?;
-        self.put(shown, path, below, false)
+        self.put(File {
+            shown,
+            path,
+            below,
+            is_input: false,
+            is_own: self.is_own,
+            is_optional,
+        })
     }
 
-    // Adds a file. One that is there already has its path below the other folder, and its text is that of
-    // standard input where that counts as it.
-    fn put(
-        &mut self,
-        shown: String,
-        path: String,
-        below: String,
-        is_input: bool,
-    ) -> Result<(), AllocError> {
-        let is_own = self.is_own;
-        if let Some(file) = self.files.get_mut(path.as_str()) {
-            file.is_input |= is_input;
-            if file.is_own && !is_own {
-                file.below = below;
+    // Adds a file. One that is there already has its path below the other folder, its text is that of
+    // standard input where that counts as it, and it is read where one of both is.
+    fn put(&mut self, found: File) -> Result<(), AllocError> {
+        if let Some(file) = self.files.get_mut(found.path.as_str()) {
+            file.is_input |= found.is_input;
+            file.is_optional &= found.is_optional;
+            if file.is_own && !found.is_own {
+                file.below = found.below;
             }
             return Ok(());
         }
-        let key = path.clone()?;
-        self.files.insert(
-            key,
-            File {
-                shown,
-                path,
-                below,
-                is_input,
-                is_own,
-            },
-        )?;
+        let key = found.path.clone()?;
+        self.files.insert(key, found)?;
         Ok(())
     }
 
@@ -350,12 +363,17 @@ impl<'r> Listing<'r> {
             let (path, below) = place_in(alloc, folder, name)?;
             return self.push_folder(shown, path, below);
         }
-        if !name.ends_with(".json") {
-            return Ok(());
-        }
+        let is_optional = match Format::of_path(name) {
+            Format::Yaml => !self.has_yaml,
+            Format::Json if name.ends_with(".json") => false,
+            Format::Json => return Ok(()),
+        };
         if kind.is_file() {
             let (path, below) = place_in(alloc, folder, name)?;
-            return self.add_file(shown.as_str(), path, below);
+            return self.add_file(shown.as_str(), path, below, is_optional);
+        }
+        if is_optional {
+            return Ok(());
         }
         if kind.is_symlink() {
             let why = "a link, which is not followed; name it to read it";
@@ -377,7 +395,7 @@ impl<'r> Listing<'r> {
 /// The files that are asked about, and after them those that are only read. A path that could not be read is among the failures, and
 /// one that leaves out nothing among those that are unused. Fails only if out of memory.
 pub fn list_files(rt: &HostRuntime, selection: &Selection<'_>) -> Result<Listed, AllocError> {
-    let mut listing = Listing::new(rt, selection.input)?;
+    let mut listing = Listing::new(rt, selection)?;
     for path in &selection.excluded {
         listing.exclude(*path)?;
     }
@@ -395,7 +413,7 @@ pub fn list_one(
     selection: &Selection<'_>,
     output: Option<&str>,
 ) -> Result<Listed, AllocError> {
-    let mut listing = Listing::new(rt, selection.input)?;
+    let mut listing = Listing::new(rt, selection)?;
     listing.add_one(file)?;
     listing.is_own = false;
     if let Some(path) = output {

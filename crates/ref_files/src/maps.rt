@@ -2,8 +2,9 @@
 use crate::failure::Failures;
 use crate::name::names_of;
 use crate::prefix::{below_prefix, path_below};
-use crate::text::JsonText;
+use crate::text::DocumentText;
 use ref_error::{Reason, Retrieve, RetrieveError};
+use ref_positions::Format;
 use ref_uri::uri::from_str;
 use ref_uri::{Uri, UriFault, UriRef};
 use serde_json::Value;
@@ -53,19 +54,19 @@ pub struct Maps<'r> {
     maps: Vec<Map>,
     // What could not be read since it was asked for last.
     failures: Cell<Failures>,
-    // What was read since it was asked for last, and is no JSON.
+    // What was read since it was asked for last, and is neither JSON nor YAML.
     broken: Cell<Vec<BrokenFile>>,
 }
 
-/// A file that was retrieved and is no JSON.
+/// A file that was retrieved and is neither JSON nor YAML.
 #[derive(Drop)]
 pub struct BrokenFile {
     /// The URI that it was retrieved for.
     pub uri: Uri,
     /// Its path.
     pub path: String,
-    /// Its text, and why it is no JSON.
-    pub text: JsonText,
+    /// Its text, and why it has no value.
+    pub text: DocumentText,
 }
 
 fn push_broken(list: &mut Vec<BrokenFile>, file: BrokenFile) -> Result<(), AllocError> {
@@ -84,7 +85,7 @@ impl<'r> Maps<'r> {
         }
     }
 
-    /// The files that were retrieved and are no JSON, since the last call.
+    /// The files that were retrieved and are neither JSON nor YAML, since the last call.
     pub fn take_broken(&self) -> Vec<BrokenFile> {
         self.broken.replace(Vec::new(self.rt.alloc()))
     }
@@ -174,12 +175,17 @@ impl<'r> Maps<'r> {
         let Some(text) = self.read_text(path.as_str())? else {
             return Ok(None);
         };
-        let JsonText { text, value } = JsonText::new(alloc, text)?;
+        let format = Format::of_path(path.as_str());
+        let DocumentText { text, value, .. } = DocumentText::new(alloc, format, text)?;
         match value {
             Ok(value) => Ok(Some(value)),
             Err(fault) => {
                 let value = Err(fault);
-                let text = JsonText { text, value };
+                let text = DocumentText {
+                    text,
+                    format,
+                    value,
+                };
                 let uri = uri.clone()?;
                 self.keep(BrokenFile { uri, path, text })?;
                 Ok(None)
@@ -187,7 +193,7 @@ impl<'r> Maps<'r> {
         }
     }
 
-    // Keeps a file that is no JSON.
+    // Keeps a file that has no value.
     fn keep(&self, file: BrokenFile) -> Result<(), AllocError> {
         let mut broken = self.take_broken();
         let added = push_broken(&mut broken, file);

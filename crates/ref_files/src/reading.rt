@@ -2,8 +2,11 @@
 use crate::buffer::Buffer;
 use crate::failure::Failures;
 use crate::listing::File;
-use crate::text::JsonText;
+use crate::marks::is_marked;
+use crate::text::DocumentText;
 use crate::uri::{file_uri, uri_below};
+use crate::wanted::add_wanted;
+use ref_positions::Format;
 use ref_uri::uri::from_str;
 use ref_uri::{Uri, UriFault};
 use std::alloc::{AllocError, Global};
@@ -17,7 +20,7 @@ pub struct ReadFile {
     /// The URI that it is under.
     pub uri: Uri,
     /// Its text.
-    pub text: JsonText,
+    pub text: DocumentText,
 }
 
 /// The files that were read, and what could not be read.
@@ -25,28 +28,47 @@ pub struct ReadFile {
 pub struct ReadFiles {
     /// The files, in their order.
     pub files: Vec<ReadFile>,
+    /// Files of YAML below folders that were passed over, as they neither say what they are at their roots nor are referred to.
+    pub passed: Vec<ReadFile>,
     /// What could not be read.
     pub failures: Failures,
 }
 
-/// Reads files: each is under its path below a base URI, or under its `file:` URI. Fails only if out of memory.
+/// Reads files: each is under its path below a base URI, or under its `file:` URI. One that is read only where its root says what it is, or a
+/// file refers to it, is among those that were passed over else. Fails only if out of memory.
 pub fn read_all(
     rt: &HostRuntime,
     base: Option<&str>,
     files: Vec<File>,
 ) -> Result<ReadFiles, AllocError> {
-    let mut read = ReadFiles {
-        files: Vec::new(rt.alloc()),
+    let mut reading = Reading {
+        all: Vec::new(rt.alloc()),
+        is_read: Vec::new(rt.alloc()),
         failures: Failures::new(rt.alloc()),
     };
     let mut buffer = Buffer::new(rt.alloc());
     for file in files {
-        read.add(rt, base, &mut buffer, file)?;
+        reading.add(rt, base, &mut buffer, file)?;
     }
-    Ok(read)
+    drop(buffer);
+    reading.finish(rt.alloc())
 }
 
-impl ReadFiles {
+// What was read so far.
+#[derive(Drop)]
+struct Reading {
+    all: Vec<ReadFile>,
+    // Which of them aren't passed over.
+    is_read: Vec<bool>,
+    failures: Failures,
+}
+
+fn push(files: &mut Vec<ReadFile>, file: ReadFile) -> Result<(), AllocError> {
+    files.push(file)?;
+    Ok(())
+}
+
+impl Reading {
     // Reads a file, and adds it, or why it could not be read.
     fn add(
         &mut self,
@@ -63,9 +85,33 @@ impl ReadFiles {
             let why = "no URI can be made of its path";
             return self.failures.fail(file.shown.as_str(), why);
         };
-        let text = JsonText::of_bytes(rt.alloc(), bytes)?;
-        self.files.push(ReadFile { file, uri, text })?;
-        Ok(())
+        let format = Format::of_path(file.shown.as_str());
+        let text = DocumentText::of_bytes(rt.alloc(), format, bytes)?;
+        self.is_read.push(!file.is_optional || is_marked(&text))?;
+        push(&mut self.all, ReadFile { file, uri, text })
+    }
+
+    // Those that are read or referred to, and the others.
+    fn finish(self, alloc: Global) -> Result<ReadFiles, AllocError> {
+        let Reading {
+            all,
+            mut is_read,
+            failures,
+        } = self;
+        add_wanted(alloc, all.as_slice(), &mut is_read)?;
+        let mut read = ReadFiles {
+            files: Vec::new(alloc),
+            passed: Vec::new(alloc),
+            failures,
+        };
+        for (file, is_read) in all.into_iter().zip(is_read.into_iter()) {
+            if is_read {
+                push(&mut read.files, file)?;
+            } else {
+                push(&mut read.passed, file)?;
+            }
+        }
+        Ok(read)
     }
 }
 

@@ -1,21 +1,23 @@
-//! Texts that are read as JSON.
+//! Texts that are read as JSON or as YAML.
 ghost use Rattle.std.specs.Prelude.{◌≡◌, ◌≢◌, IfOk, MatchOption, None, option_map, string_bytes};
 ghost use Rattle.std.specs.Result.{result_ok};
 ghost use Rattle.serde_json.specs.Errors.{IsMemory};
 ghost use Rattle.serde_json.specs.Read.{read};
 ghost use Rattle.serde_json.specs.View.{view};
+ghost use Rattle.ref_positions.specs.declared.format.Format.TheVariants.{Json, Yaml};
 ghost use Rattle.ref_files.specs.Texts.{tree_of};
 
 use crate::why::why_not;
-use ref_positions::Position;
+use crate::yaml::parsed_yaml;
+use ref_positions::{Format, Position};
 use serde_json::Value;
 use simdutf8::compat::from_utf8;
 use std::alloc::{AllocError, Global};
 
-/// Why a text is no JSON, and where.
+/// Why a text is neither JSON nor YAML, or what is to be said of it, and where.
 #[derive(Drop)]
 pub struct Fault {
-    /// Why.
+    /// Why, and in YAML what to do.
     pub text: String,
     /// The line, from 1.
     pub line: usize,
@@ -23,31 +25,47 @@ pub struct Fault {
     pub column: usize,
 }
 
-/// A text, and the value that it is, or why it is no JSON.
+/// A text, and the value that it is, or why it is none.
 #[derive(Drop)]
-pub struct JsonText {
+pub struct DocumentText {
     /// The text; where its bytes were no UTF-8, what of them was.
     pub text: String,
+    /// How it is written.
+    pub format: Format,
     /// Its value, or why there is none.
     pub value: Result<Value, Fault>,
 }
 
-impl JsonText {
-    /// A text. Fails only if out of memory. One pass, and another where it is no JSON.
-    pub fn new(alloc: Global, text: String) -> Result<JsonText, AllocError>
+impl DocumentText {
+    /// A text. Fails only if out of memory. One pass, and another where it is no JSON; of YAML as [`ref_yaml::from_str`] says.
+    pub fn new(alloc: Global, format: Format, text: String) -> Result<DocumentText, AllocError>
         ensures text { IfOk result (λ t. string_bytes t.text ≡ string_bytes text) }
-        ensures tree { IfOk result (λ t. tree_of t ≡ read (string_bytes text)) }
+        ensures format { IfOk result (λ t. t.format ≡ format) }
+        ensures json { IfOk result (λ t. format ≡ Json → tree_of t ≡ read (string_bytes text)) }
     {
-        let value = parsed(alloc, text.as_str())?;
-        Ok(JsonText { text, value })
+        let value = match format {
+            Format::Json => parsed(alloc, text.as_str())?,
+            Format::Yaml => parsed_yaml(alloc, text.as_str())?,
+        };
+        Ok(DocumentText {
+            text,
+            format,
+            value,
+        })
     }
 
-    /// The text that bytes are, without a byte order mark at their beginning (RFC 8259, 8.1). Fails only if out of memory.
-    pub fn of_bytes(alloc: Global, bytes: &[u8]) -> Result<JsonText, AllocError> {
+    /// The text that bytes are, without a byte order mark at their beginning (RFC 8259, 8.1; YAML 1.2.2, 5.2). Fails only if out of
+    /// memory.
+    pub fn of_bytes(alloc: Global, format: Format, bytes: &[u8]) -> Result<DocumentText, AllocError>
+        ensures format { IfOk result (λ t. t.format ≡ format) }
+    {
         let bytes = without_mark(bytes);
         match from_utf8(bytes) {
-            Ok(text) => JsonText::new(alloc, String::from_str(alloc, text)?),
-            Err(error) => broken(alloc, bytes.get(..error.valid_up_to()).unwrap_or(bytes)),
+            Ok(text) => DocumentText::new(alloc, format, String::from_str(alloc, text)?),
+            Err(error) => {
+                let front = bytes.get(..error.valid_up_to()).unwrap_or(bytes);
+                broken(alloc, format, front)
+            }
         }
     }
 
@@ -61,7 +79,7 @@ impl JsonText {
         }
     }
 
-    /// Why it is no JSON.
+    /// Why it has no value.
     pub fn fault(&self) -> Option<&Fault>
         ensures value { MatchOption result
             (tree_of self.now ≢ None)
@@ -75,13 +93,15 @@ impl JsonText {
 }
 
 // The text that ends where its bytes go on with what is no UTF-8.
-fn broken(alloc: Global, front: &[u8]) -> Result<JsonText, AllocError>
-    ensures { IfOk result (λ t. tree_of t ≡ None) }
+fn broken(alloc: Global, format: Format, front: &[u8]) -> Result<DocumentText, AllocError>
+    ensures tree { IfOk result (λ t. tree_of t ≡ None) }
+    ensures format { IfOk result (λ t. t.format ≡ format) }
 {
     let text = String::from_utf8_lossy(alloc, front)?;
     let fault = fault_at(alloc, text.as_str(), text.len(), "Not UTF-8 from here on")?;
-    Ok(JsonText {
+    Ok(DocumentText {
         text,
+        format,
         value: Err(fault),
     })
 }
@@ -94,7 +114,12 @@ fn without_mark(bytes: &[u8]) -> &[u8] {
     }
 }
 
-fn fault_at(alloc: Global, text: &str, offset: usize, why: &str) -> Result<Fault, AllocError> {
+pub(crate) fn fault_at(
+    alloc: Global,
+    text: &str,
+    offset: usize,
+    why: &str,
+) -> Result<Fault, AllocError> {
     let position = Position::at(text, offset);
     Ok(Fault {
         text: String::from_str(alloc, why)?,

@@ -14,6 +14,14 @@ next_line line b = cond (b == 10) (line + 1) line
 abbrev pub next_column : ℕ → ℕ → ℕ
 next_column column b = cond (b == 10) 1 (cond (begins_character b) (column + 1) column)
 
+-- how many units of UTF-16 the character has that a byte begins (RFC 3629, 3; RFC 2781, 2.1): two from U+10000 on
+abbrev pub units_of : ℕ → ℕ
+units_of b = cond (begins_character b) (cond (nat_le 240 b) 2 1) 0
+
+-- the unit after a byte: 1 after a line feed, and else those of the character more
+abbrev pub next_unit : ℕ → ℕ → ℕ
+next_unit unit b = cond (b == 10) 1 (unit + units_of b)
+
 -- the line at an offset of a text
 abbrev pub line_of : List ℕ → ℕ → ℕ
 line_of text offset = fold next_line 1 (take offset text)
@@ -21,6 +29,16 @@ line_of text offset = fold next_line 1 (take offset text)
 -- the column at an offset of a text
 abbrev pub column_of : List ℕ → ℕ → ℕ
 column_of text offset = fold next_column 1 (take offset text)
+
+-- the column at an offset of a text, in units of UTF-16
+abbrev pub unit_of : List ℕ → ℕ → ℕ
+unit_of text offset = fold next_unit 1 (take offset text)
+
+-- that column, and its bounds
+pub record IsUnitAt (text : List ℕ) (offset unit : ℕ) : Type 0 where
+  pub column : unit ≡ unit_of text offset
+  pub first : 1 ≤ unit
+  pub few : unit ≤ offset + offset + 1
 
 -- the line and the column at an offset within a text
 pub record IsAt (text : List ℕ) (offset on at : ℕ) : Type 0 where

@@ -2,7 +2,9 @@
 #![tactic(auto)]
 
 ghost use Rattle.std.specs.Prelude.{◌≡◌, [], ◌∷◌, true, false, codes};
-ghost use Rattle.ref_positions.specs.Lines.{begins_character, next_line, next_column, line_of, column_of, IsAt};
+ghost use Rattle.ref_positions.specs.Lines.{begins_character, next_line, next_column, next_unit, line_of, column_of, unit_of, units_of, IsAt};
+ghost use Rattle.ref_positions.specs.declared.format.Format.TheVariants.{Json, Yaml};
+ghost use Rattle.ref_positions.specs.Formats.{format_of};
 ghost use Rattle.ref_positions.specs.Rows.{letters};
 
 /// The bytes that begin a character, and those that go on with one (RFC 3629, 3).
@@ -22,6 +24,28 @@ pub fn next()
     ensures after_a_letter { next_column 7 97 ≡ 8 }
     ensures after_a_carriage_return { next_column 7 13 ≡ 8 }
     ensures within_a_character { next_column 7 169 ≡ 7 }
+{}
+
+/// How a file is written, by its name.
+pub fn formats()
+    ensures yaml { format_of (codes "a/b.yaml") ≡ Yaml }
+    ensures short { format_of (codes "b.yml") ≡ Yaml }
+    ensures json { format_of (codes "b.json") ≡ Json }
+    ensures other { format_of (codes "yaml") ≡ Json }
+    ensures upper_case { format_of (codes "b.YAML") ≡ Json }
+    ensures within { format_of (codes "b.yaml.json") ≡ Json }
+{}
+
+/// Columns in units of UTF-16: U+1F600 has two (RFC 2781, 2.1).
+pub fn units()
+    ensures ascii { units_of 97 ≡ 1 }
+    ensures of_three_bytes { units_of 226 ≡ 1 }
+    ensures of_four_bytes { units_of 240 ≡ 2 }
+    ensures within_a_character { units_of 159 ≡ 0 }
+    ensures after_a_line_feed { next_unit 7 10 ≡ 1 }
+    ensures after_two_bytes { unit_of letters 2 ≡ 2 }
+    ensures after_five_bytes { unit_of letters 5 ≡ 3 }
+    ensures after_nine_bytes { unit_of letters 9 ≡ 5 }
 {}
 
 /// Lines and columns in texts.

@@ -1,6 +1,6 @@
 //! A place in a text, as a line and a column.
-ghost use Rattle.std.specs.Prelude.{◌≡◌, ◌≤◌, ◌<◌, ◌+◌, ◌^◌, length};
-ghost use Rattle.ref_positions.specs.Lines.{line_of, column_of, next_line, next_column, begins_character, IsAt};
+ghost use Rattle.std.specs.Prelude.{◌≡◌, ◌≤◌, ◌<◌, ◌+◌, ◌-◌, ◌^◌, length};
+ghost use Rattle.ref_positions.specs.Lines.{line_of, column_of, unit_of, units_of, next_line, next_column, next_unit, begins_character, IsAt, IsUnitAt};
 
 /// A place in a text: its offset in bytes, its line and its column. An offset is at most the text's length.
 #[derive(Clone, Copy, Debug, Drop)]
@@ -9,7 +9,9 @@ pub struct Position<'a> {
     offset: usize,
     line: usize,
     column: usize,
+    unit: usize,
     ghost exact: { IsAt text.now offset line column },
+    ghost exact_unit: { IsUnitAt text.now offset unit },
 }
 
 impl<'a> Position<'a> {
@@ -23,6 +25,7 @@ impl<'a> Position<'a> {
             offset: 0,
             line: 1,
             column: 1,
+            unit: 1,
         }
     }
 
@@ -58,6 +61,40 @@ impl<'a> Position<'a> {
         self.column
     }
 
+    /// The number of its column in units of UTF-16, counted from 1, as editors count: one more than those of the characters before it on
+    /// its line.
+    pub fn unit(&self) -> usize
+        ensures value { result ≡ unit_of self.now.text.now self.now.offset }
+        ensures first { 1 ≤ result }
+    {
+        self.unit
+    }
+
+    /// The place on a line, from 1, at a column in units of UTF-16, from 1, or the end of the line where it has fewer, or of the text. In the middle
+    /// of a character it is after that. It costs a step for each byte before it.
+    pub fn at_unit(text: &'a str, line: usize, unit: usize) -> Position<'a>
+        ensures text { result.text.now ≡ text.now }
+    {
+        let mut place = Position::start(text);
+        for _ in 0..text.len() {
+            if place.is_beyond(line, unit) {
+                break;
+            }
+            place = place.after_byte();
+        }
+        place
+    }
+
+    // Whether it is between characters, and at or after a column of a line, or at the end of that line.
+    fn is_beyond(&self, line: usize, unit: usize) -> bool {
+        if self.offset >= self.text.len() {
+            return true;
+        }
+        let byte = self.text.as_bytes()[self.offset];
+        begins_character(byte)
+            && (self.line > line || self.line == line && (self.unit >= unit || byte == b'\n'))
+    }
+
     /// The place after the next byte, or the end of the text.
     pub(crate) fn after_byte(self) -> Position<'a>
         ensures text { result.text.now ≡ self.entry.text.now }
@@ -75,6 +112,7 @@ impl<'a> Position<'a> {
             offset: self.offset + 1,
             line: next_line(self.line, byte),
             column: next_column(self.column, byte),
+            unit: next_unit(self.unit, byte),
         }
     }
 
@@ -109,6 +147,25 @@ fn next_column(column: usize, byte: u8) -> usize
         column + 1
     } else {
         column
+    }
+}
+
+fn next_unit(unit: usize, byte: u8) -> usize
+    requires { unit < 2 ^ 64 - 2 }
+    ensures value { result ≡ next_unit unit byte }
+{
+    let units = units_of(byte);
+    if byte == b'\n' { 1 } else { unit + units }
+}
+
+fn units_of(byte: u8) -> usize
+    ensures value { result ≡ units_of byte }
+    ensures few { result ≤ 2 }
+{
+    match byte {
+        0x80..=0xbf => 0,
+        0xf0..=0xff => 2,
+        _ => 1,
     }
 }
 

@@ -84,7 +84,7 @@ impl Scan<'_> {
 }
 
 // Where a text, a number, a boolean or a null ends that begins at an offset.
-fn end_of_scalar(text: &str, offset: usize) -> usize {
+pub(crate) fn end_of_scalar(text: &str, offset: usize) -> usize {
     let is_text = text.as_bytes().get(offset).copied() == Some(b'"');
     let mut is_escaped = false;
     for (place, byte) in text.as_bytes().iter().enumerate().skip(offset) {

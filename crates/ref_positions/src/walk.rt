@@ -1,16 +1,14 @@
-//! The walk over the tokens of a text, which notes where the places are that are asked for.
-ghost use Rattle.std.specs.Prelude.{◌≡◌, vec_len};
-
+//! The walk over the tokens or the events of a text, which notes where the places are that are asked for.
 use crate::places::Places;
-use crate::position::Position;
 use json::Token;
+use ref_yaml::{Document, Event, Kind, Stop};
 use std::alloc::{AllocError, Global};
 
-// Where a place was last found, and where the value was that it was found in.
+// The offsets at which a place was last found, and where the value was that it was found in.
 #[derive(Clone, Copy, Drop)]
-pub(crate) struct Found<'a> {
-    pub(crate) key: Option<Position<'a>>,
-    pub(crate) value: Option<Position<'a>>,
+pub(crate) struct Found {
+    pub(crate) key: Option<usize>,
+    pub(crate) value: Option<usize>,
     pub(crate) within: Option<usize>,
 }
 
@@ -24,23 +22,17 @@ struct Level {
 }
 
 #[derive(Drop)]
-pub(crate) struct Walk<'p, 't> {
+pub(crate) struct Walk<'p> {
     places: &'p Places,
     // Of each place, by its number.
-    pub(crate) found: Vec<Found<'t>>,
+    found: Vec<Found>,
     levels: Vec<Level>,
     // The place of the next value, where it isn't an array's item.
     coming: Option<usize>,
-    // The last position that was noted.
-    last: Position<'t>,
 }
 
-impl<'p, 't> Walk<'p, 't> {
-    pub(crate) fn new(
-        alloc: Global,
-        places: &'p Places,
-        text: &'t str,
-    ) -> Result<Walk<'p, 't>, AllocError> {
+impl<'p> Walk<'p> {
+    pub(crate) fn new(alloc: Global, places: &'p Places) -> Result<Walk<'p>, AllocError> {
         let nothing = Found {
             key: None,
             value: None,
@@ -52,18 +44,20 @@ impl<'p, 't> Walk<'p, 't> {
             found,
             levels: Vec::new(alloc),
             coming: Some(0),
-            last: Position::start(text),
         })
     }
 
-    pub(crate) fn into_found(self) -> Vec<Found<'t>> {
+    pub(crate) fn into_found(self) -> Vec<Found> {
         self.found
     }
 
-    // Passes a token that begins at the offset.
+    // Passes a token of JSON that begins at the offset.
     pub(crate) fn pass(&mut self, token: &Token<'_>, offset: usize) -> Result<(), AllocError> {
         match token {
-            Token::Key(key) => self.pass_key(*key, offset),
+            Token::Key(key) => {
+                self.pass_key(*key, offset);
+                Ok(())
+            }
             Token::EndObject | Token::EndArray => {
                 self.levels.pop();
                 Ok(())
@@ -77,18 +71,59 @@ impl<'p, 't> Walk<'p, 't> {
         }
     }
 
-    fn pass_key(&mut self, key: &str, offset: usize) -> Result<(), AllocError> {
+    // Passes an event of YAML.
+    pub(crate) fn pass_event(
+        &mut self,
+        alloc: Global,
+        document: &Document<'_>,
+        event: &Event,
+    ) -> Result<(), AllocError> {
+        match event.kind {
+            Kind::EndObject | Kind::EndArray => {
+                self.levels.pop();
+                Ok(())
+            }
+            Kind::BeginObject => self.open(event.start, None),
+            Kind::BeginArray => self.open(event.start, Some(0)),
+            _ if event.is_key => self.pass_yaml_key(alloc, document, event),
+            _ => {
+                self.pass_value(event.start);
+                Ok(())
+            }
+        }
+    }
+
+    // Passes a key of YAML, whose text is made only where something in its object is asked for.
+    fn pass_yaml_key(
+        &mut self,
+        alloc: Global,
+        document: &Document<'_>,
+        event: &Event,
+    ) -> Result<(), AllocError> {
+        self.coming = None;
+        if self.innermost().is_none() {
+            return Ok(());
+        }
+        match document.text_of(alloc, event) {
+            Ok(key) => {
+                self.pass_key(key.as_str(), event.start);
+                Ok(())
+            }
+            Err(Stop::Memory) => Err(AllocError),
+            Err(Stop::At(..)) => Ok(()),
+        }
+    }
+
+    fn pass_key(&mut self, key: &str, offset: usize) {
         self.coming = match self.innermost() {
             Some(place) => self.places.find_member(place, key),
             None => None,
         };
         if let Some(number) = self.coming {
-            let position = self.position_at(offset);
             if let Some(found) = self.found.get_mut(number) {
-                found.key = Some(position);
+                found.key = Some(offset);
             }
         }
-        Ok(())
     }
 
     fn open(&mut self, offset: usize, next: Option<usize>) -> Result<(), AllocError> {
@@ -116,10 +151,9 @@ impl<'p, 't> Walk<'p, 't> {
 
     fn pass_value(&mut self, offset: usize) -> Option<usize> {
         let number = self.next_place()?;
-        let position = self.position_at(offset);
         let within = self.start_above(number);
         if let Some(found) = self.found.get_mut(number) {
-            found.value = Some(position);
+            found.value = Some(offset);
             found.within = within;
         }
         Some(number)
@@ -128,24 +162,11 @@ impl<'p, 't> Walk<'p, 't> {
     // Where the value is that a place is below.
     fn start_above(&self, number: usize) -> Option<usize> {
         let above = self.places.above.get(number)?;
-        self.found.get(*above)?.start()
-    }
-
-    fn position_at(&mut self, offset: usize) -> Position<'t> {
-        self.last = self.last.moved_to(offset);
-        self.last
+        self.found.get(*above)?.value
     }
 }
 
-impl<'a> Found<'a> {
-    // Where its value begins.
-    pub(crate) fn start(&self) -> Option<usize> {
-        match &self.value {
-            Some(position) => Some(position.offset()),
-            None => None,
-        }
-    }
-
+impl Found {
     // Forgets it where it was found in another value than the one that begins there.
     pub(crate) fn keep_within(&mut self, start: Option<usize>) {
         if start.is_none() || start != self.within {

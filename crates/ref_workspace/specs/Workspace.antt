@@ -7,7 +7,7 @@ use Rattle.ref_findings.specs.Sources.{Source, tree_in_place}
 use Rattle.ref_findings.specs.Findings as found
 use Rattle.ref_findings.specs.Findings.{Finding}
 
--- a document: what it is called, its URI, its text, and its tree, where it is JSON
+-- a document: what it is called, its URI, its text, and its tree, where it has one
 pub record Document : Type 0 where
   pub name : List ℕ
   pub uri : List ℕ

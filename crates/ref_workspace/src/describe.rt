@@ -86,7 +86,7 @@ impl<'l, 'd> Describer<'l, 'd> {
             column,
             pointer: String::new(self.alloc),
             level: level_of(&finding.problem),
-            code: code_of(&finding.problem),
+            code: code_of(&finding.problem, self.workspace.format(finding.source)),
             text: String::new(self.alloc),
             keyword: finding.keyword,
             reference: finding.text,
@@ -289,7 +289,7 @@ fn position_of(
     }
 }
 
-// Why the text of a file is not JSON, and where.
+// Why a file has no value, and where.
 fn fault_of(workspace: &Workspace, source: usize) -> Option<&Fault> {
     workspace.documents().get(source)?.text.fault()
 }

@@ -1,5 +1,5 @@
 //! What may be meant by a reference into a document that isn't there.
-use crate::resources::Resources;
+use crate::resources::{ENDS, Resources};
 use crate::workspace::Workspace;
 use ref_draft::ResourceRef;
 use ref_files::{folder_of, last_name, names_of};
@@ -9,7 +9,7 @@ use ref_uri::uri::resolve_against;
 use std::alloc::{AllocError, Global};
 
 /// What may be meant by the text of a reference from a document that was resolved to a URI that none has: a place of the document itself, where the `#`
-/// was forgotten; a document whose URI ends in `.json`; or one whose name is a letter or two away, or has other cases.
+/// was forgotten; a document whose URI ends in `.json`, `.yaml` or `.yml`; or one whose name is a letter or two away, or has other cases.
 pub fn meant_document(
     alloc: Global,
     suggester: &mut Suggester,
@@ -25,9 +25,11 @@ pub fn meant_document(
         Some((front, fragment)) => (front, "#", fragment),
         None => (text, "", ""),
     };
-    let longer = [uri, ".json"].join(alloc, "")?;
-    if resources.get(longer.as_str()).is_some() {
-        return Ok(Some([front, ".json", hash, fragment].join(alloc, "")?));
+    for end in ENDS {
+        let longer = [uri, *end].join(alloc, "")?;
+        if resources.get(longer.as_str()).is_some() {
+            return Ok(Some([front, *end, hash, fragment].join(alloc, "")?));
+        }
     }
     let Some(close) = resources.close_uri(alloc, suggester, uri)? else {
         return Ok(None);

@@ -33,7 +33,7 @@ pub enum Outcome<'w> {
     Found(Found<'w>),
     /// Into a document that isn't there, under this URI.
     Missing(Rc<Uri>),
-    /// Into a document that was read, by its number, but is no JSON or has faults.
+    /// Into a document that was read, by its number, but has no value, or has faults.
     Broken(usize),
     /// From a place that isn't there.
     NoPlace,

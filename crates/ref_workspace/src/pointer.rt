@@ -1,6 +1,6 @@
 //! Paths as JSON pointers, and as steps.
 use ref_parts::path::JsonPointerSegment;
-use ref_positions::Places;
+use ref_positions::{Format, Places};
 use referencing::unescape_segment;
 use serde_json::Value;
 use std::alloc::{AllocError, Global};
@@ -20,11 +20,11 @@ pub fn place_of(places: &mut Places, path: &[JsonPointerSegment<'_>]) -> Result<
 /// The line and the column at the end of a path in a text, or its beginning where it has no such place.
 pub fn position(
     alloc: Global,
-    text: &str,
+    (format, text): (Format, &str),
     path: &[JsonPointerSegment<'_>],
 ) -> Result<(usize, usize), AllocError> {
     let mut places = Places::new(alloc)?;
-    let found = position_among(alloc, &mut places, text, path);
+    let found = position_among(alloc, &mut places, (format, text), path);
     drop(places);
     found
 }
@@ -33,11 +33,11 @@ pub fn position(
 fn position_among(
     alloc: Global,
     places: &mut Places,
-    text: &str,
+    (format, text): (Format, &str),
     path: &[JsonPointerSegment<'_>],
 ) -> Result<(usize, usize), AllocError> {
     let place = place_of(places, path)?;
-    let located = places.locate(alloc, text)?;
+    let located = places.locate(alloc, format, text)?;
     match located.value(place) {
         Some(position) => Ok((position.line(), position.column())),
         None => Ok((1, 1)),

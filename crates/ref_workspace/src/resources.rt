@@ -36,6 +36,9 @@ impl Resource<'_> {
     }
 }
 
+/// What the names of files of documents end with.
+pub const ENDS: &[&str] = &[".json", ".yaml", ".yml"];
+
 // How many letters two URIs are apart, where they are few and in one name alone: that of a folder, or that of a file. The ends that both names of
 // files have don't count: a name of one or two letters before `.json` is close to any other.
 fn distance(
@@ -60,10 +63,12 @@ fn distance_of_files(
     name: &str,
     other: &str,
 ) -> Result<Option<usize>, AllocError> {
-    match (name.strip_suffix(".json"), other.strip_suffix(".json")) {
-        (Some(name), Some(other)) => suggester.distance(alloc, name, other),
-        _ => suggester.distance(alloc, name, other),
+    for end in ENDS {
+        if let (Some(name), Some(other)) = (name.strip_suffix(*end), other.strip_suffix(*end)) {
+            return suggester.distance(alloc, name, other);
+        }
     }
+    suggester.distance(alloc, name, other)
 }
 
 // A schema that is to be visited.

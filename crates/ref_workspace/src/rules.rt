@@ -1,5 +1,6 @@
 //! The kinds of findings.
 use ref_error::Error;
+use ref_files::Format;
 use ref_findings::Problem;
 use ref_messages::Rule;
 
@@ -8,6 +9,10 @@ pub const RULES: &[Rule] = &[
     Rule {
         code: "not-json",
         text: "The file is not JSON",
+    },
+    Rule {
+        code: "not-yaml",
+        text: "The file is not YAML of one document, or has what JSON hasn't",
     },
     Rule {
         code: "not-checked",
@@ -75,9 +80,10 @@ pub const RULES: &[Rule] = &[
     },
 ];
 
-/// The kind of a problem.
-pub fn code_of(problem: &Problem<'_>) -> &'static str {
+/// The kind of a problem of a document that is written so.
+pub fn code_of(problem: &Problem<'_>, format: Format) -> &'static str {
     match problem {
+        Problem::NotJson if format == Format::Yaml => "not-yaml",
         Problem::NotJson => "not-json",
         Problem::NotChecked => "not-checked",
         Problem::NotAText => "not-a-text",

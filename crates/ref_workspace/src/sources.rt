@@ -91,7 +91,7 @@ impl Workspace {
         report(alloc, self.draft(), own.as_slice(), others.as_slice())
     }
 
-    /// What [`Workspace::report`] lists, and after it which retrieved documents are no JSON, and which texts of them mean no URI. Fails
+    /// What [`Workspace::report`] lists, and after it which retrieved documents have no value, and which texts of them mean no URI. Fails
     /// only if out of memory.
     pub fn full_report<'d>(&'d self, alloc: Global) -> Result<Report<'d>, AllocError> {
         let mut report = self.report(alloc)?;
@@ -99,7 +99,7 @@ impl Workspace {
         Ok(report)
     }
 
-    // Adds which retrieved documents are no JSON, and which texts of them mean no URI.
+    // Adds which retrieved documents have no value, and which texts of them mean no URI.
     fn add_faults<'d>(
         &'d self,
         alloc: Global,

@@ -100,7 +100,10 @@ fn located_in<'t>(
     places: &Option<Places>,
 ) -> Result<Option<Located<'t>>, AllocError> {
     match places {
-        Some(places) => Ok(Some(places.locate(alloc, document.text.text.as_str())?)),
+        Some(places) => {
+            let text = &document.text;
+            Ok(Some(places.locate(alloc, text.format, text.text.as_str())?))
+        }
         None => Ok(None),
     }
 }

@@ -7,7 +7,7 @@ ghost use Rattle.ref_workspace.specs.Workspace as spec;
 use crate::sources::{faulty_of, sources_of};
 use ref_draft::Draft;
 use ref_error::Retrieve;
-use ref_files::JsonText;
+use ref_files::{DocumentText, Format};
 use ref_findings::{Held, gather};
 use ref_uri::Uri;
 use serde_json::{Map, Value};
@@ -21,13 +21,13 @@ pub struct Document {
     /// The URI that it is under, in normal form and without a fragment, as [`from_str`](ref_uri::uri::from_str) gives it.
     pub uri: Uri,
     /// Its text, and the value that it is. One that was retrieved may have no text.
-    pub text: JsonText,
+    pub text: DocumentText,
 }
 
 impl Document {
     ghost use Rattle.ref_workspace.specs.Open.{document_of};
 
-    /// Its value, where it is JSON.
+    /// Its value, where it has one.
     pub fn value(&self) -> Option<&Value>
         ensures value { option_map (λ v. view v.now) result ≡ (document_of self.now).tree }
     {
@@ -49,7 +49,7 @@ pub struct Workspace {
     opened: usize,
     // What else was retrieved.
     held: Vec<Held>,
-    // What counts in place of a document that is no JSON.
+    // What counts in place of a document that has no value.
     empty: Value,
     ghost ordered: { (asked ≤ opened) × (opened ≤ vec_len documents) },
 }
@@ -100,7 +100,7 @@ impl Workspace {
     }
 
     /// Opens another text in place of that of the document with a number, where there is one.
-    pub fn replace(&mut self, number: usize, text: JsonText) {
+    pub fn replace(&mut self, number: usize, text: DocumentText) {
         if let Some(document) = self.documents.get_mut(number) {
             document.text = text;
         }
@@ -157,10 +157,11 @@ impl Workspace {
         Ok(())
     }
 
-    /// Gives a name and a text to the document with a number, which was retrieved. Its value stays.
-    pub fn set_file(&mut self, number: usize, name: String, text: String) {
+    /// Gives a name and a text, which is written so, to the document with a number, which was retrieved. Its value stays.
+    pub fn set_file(&mut self, number: usize, name: String, format: Format, text: String) {
         if let Some(document) = self.documents.get_mut(number) {
             document.name = name;
+            document.text.format = format;
             document.text.text = text;
         }
     }
@@ -237,7 +238,7 @@ impl Workspace {
         }
     }
 
-    /// The value of the document with a number, where it is JSON.
+    /// The value of the document with a number, where it has one.
     pub fn value(&self, number: usize) -> Option<&Value> {
         match self.documents.get(number) {
             Some(document) => document.value(),
@@ -245,8 +246,16 @@ impl Workspace {
         }
     }
 
+    /// How the text of the document with a number is written. What was retrieved and has no text counts as JSON.
+    pub fn format(&self, number: usize) -> Format {
+        match self.documents.get(number) {
+            Some(document) => document.text.format,
+            None => Format::Json,
+        }
+    }
+
     /// The value of the document with a number as it is read: the tree in place of its own, where there is one, or an empty one
-    /// where it is no JSON.
+    /// where it has none.
     pub fn read_value<'d>(&'d self, number: usize, trees: &'d [Option<Value>]) -> &'d Value {
         if let Some(Some(tree)) = trees.get(number) {
             return tree;
@@ -283,8 +292,9 @@ fn retrieved(alloc: Global, held: Held) -> Result<Document, AllocError> {
     Ok(Document {
         name,
         uri,
-        text: JsonText {
+        text: DocumentText {
             text: String::new(alloc),
+            format: Format::Json,
             value: Ok(value),
         },
     })

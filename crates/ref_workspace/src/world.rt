@@ -35,7 +35,7 @@ pub struct World<'d> {
     pub sources: Vec<usize>,
 }
 
-/// The registry of the documents of a workspace, with the trees that are read in place of some. One that is no JSON counts as an empty
+/// The registry of the documents of a workspace, with the trees that are read in place of some. One that has no value counts as an empty
 /// one; of those under one URI the first is taken.
 pub fn world_of<'d>(
     alloc: Global,

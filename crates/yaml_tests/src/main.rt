@@ -1,16 +1,23 @@
-//! The tests of `ref_yaml`, whose rows are data: reads a row a line from standard input and prints each whose answer is
+//! The tests of `ref_yaml`, and of what `ref_positions` finds at an offset, whose rows are data: reads a row a line from standard input and prints each whose answer is
 //! another, and how many hold. A row is a JSON list of a text of YAML and of
 //!
 //! - its value;
 //! - the name of what is wrong in it, and where;
 //! - `"offsets"`, and a list of where its events begin;
-//! - `"leniencies"`, and how many there are.
+//! - `"leniencies"`, and how many there are;
+//! - `"part"` or `"json part"`, an offset, and the key or value there of the text as YAML or as JSON: its path, whether it is
+//!   a key, where it begins and where it ends;
+//! - `"unit"`, a list of a line and a column in units of UTF-16, and the offset, the line, the column and the unit there.
 //!
 //! Of a row that has nothing after its text the value is printed.
 //!
 //! Lines that are empty or begin with `//` are skipped.
 #![tactic(auto)]
 
+mod positions;
+
+use positions::{part_of as part_there, unit_of};
+use ref_positions::Format;
 use ref_yaml::{Document, Stop, from_str};
 use serde_json::Value;
 use std::alloc::{AllocError, Global};
@@ -69,6 +76,9 @@ fn answer(alloc: Global, text: &str, row: &Value) -> Result<String, AllocError> 
     match row.get(1).and_then(Value::as_str) {
         Some("offsets") => part_of(alloc, text, "offsets"),
         Some("leniencies") => part_of(alloc, text, "leniencies"),
+        Some("part") => part_there(alloc, Format::Yaml, text, row),
+        Some("json part") => part_there(alloc, Format::Json, text, row),
+        Some("unit") => unit_of(alloc, text, row),
         _ => value_of(alloc, text),
     }
 }
@@ -78,12 +88,17 @@ fn expected(alloc: Global, row: &Value) -> Result<String, AllocError> {
     let Some(second) = row.get(1) else {
         return String::from_str(alloc, "");
     };
-    let Some(third) = row.get(2) else {
+    // What is asked at a place has its answer after the place.
+    let last = match second.as_str() {
+        Some("part" | "json part" | "unit") => row.get(3),
+        _ => row.get(2),
+    };
+    let Some(third) = last else {
         return second.to_string(alloc);
     };
     let wanted = third.to_string(alloc)?;
     match second.as_str() {
-        Some("offsets" | "leniencies") | None => Ok(wanted),
+        Some("offsets" | "leniencies" | "part" | "json part" | "unit") | None => Ok(wanted),
         Some(name) => format!(in alloc; "{name} {wanted}"),
     }
 }
