@@ -265,10 +265,10 @@ fn summary(rt: &HostRuntime, files: usize, count: Count) -> Result<(), Stop> {
     line.push_str(", ")?;
     if count.descriptions > 0 {
         push_count(&mut line, count.descriptions, "description")?;
+        line.push_str(" with ")?;
+        push_count(&mut line, count.places, "place")?;
         line.push_str(", ")?;
     }
-    push_count(&mut line, count.places, "place")?;
-    line.push_str(", ")?;
     push_count(&mut line, count.references, "reference")?;
     line.push_str(", ")?;
     push_count(&mut line, count.errors, "error")?;

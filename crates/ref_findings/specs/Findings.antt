@@ -304,19 +304,11 @@ whole_findings e = option_map_or (description_findings e.0) e.1.tree (no_json e.
 abbrev pub sources_findings : List Source → List Finding
 sources_findings sources = flat_map whole_findings (enumerate_from 0 sources)
 
--- the text under `$ref` that a place has
-abbrev pub plain_references_at : Site → List (List ℕ)
-plain_references_at s = option_to_list (text_under (codes "$ref") s.1.value)
-
 -- the texts of references that a place has
 abbrev pub references_at : Site → List (List ℕ)
 references_at s =
-    plain_references_at s
+    option_to_list (text_under (codes "$ref") s.1.value)
     ++ option_to_list (option_and_then (λ k. text_under k s.1.value) (dynamic_keyword s.1.draft))
-
--- how many texts under `$ref` sources have
-abbrev pub plain_references : Draft → List Source → ℕ
-plain_references draft sources = length (flat_map plain_references_at (sites draft sources))
 
 -- how many references sources have
 abbrev pub references : Draft → List Source → ℕ

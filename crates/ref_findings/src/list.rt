@@ -4,9 +4,9 @@ ghost use Rattle.std.specs.List.{AllZip, AllByRecursion, enumerate_from};
 ghost use Rattle.ref_draft.specs.declared.anchor.Anchor.{Anchor};
 ghost use Rattle.ref_draft.specs.Views.{anchor_name};
 ghost use Rattle.ref_findings.specs.Findings as spec;
-ghost use Rattle.ref_findings.specs.Findings.{finding_at, anchor_finding, source_findings, identifier_findings, reference_findings, dynamic_findings, schema_findings, anchor_findings, findings_at, place_findings, no_json, description_keyword, not_checked, description_findings, whole_findings, sources_findings, references_at, references, plain_references_at, plain_references, findings};
+ghost use Rattle.ref_findings.specs.Findings.{finding_at, anchor_finding, source_findings, identifier_findings, reference_findings, dynamic_findings, schema_findings, anchor_findings, findings_at, place_findings, no_json, description_keyword, not_checked, description_findings, whole_findings, sources_findings, references_at, references, findings};
 ghost use Rattle.ref_findings.specs.Sources.{tree_in_place, unread_uris};
-ghost use Rattle.ref_findings.specs.Bearers.{numbered_sites, sites, uris_borne, names_borne};
+ghost use Rattle.ref_findings.specs.Bearers.{numbered_sites, uris_borne, names_borne};
 ghost use Rattle.ref_resolver.specs.Layered.{world_in};
 ghost use Rattle.ref_findings.specs.inner.Read.{AreBearers, known_read};
 ghost use Rattle.ref_findings.specs.Entries.{source_of, IsProblemOf, IsFindingOf};
@@ -392,19 +392,6 @@ fn count_references(sites: &[Site<'_, '_>]) -> usize
     count
 }
 
-// How many places have a text under `$ref`.
-fn count_plain(sites: &[Site<'_, '_>]) -> usize
-    ensures { result ≡ length (flat_map plain_references_at (map site_of sites.now)) }
-{
-    let mut count: usize = 0;
-    for site in sites {
-        if site.place.reference().is_some() {
-            count += 1;
-        }
-    }
-    count
-}
-
 // The places of sources, and which URIs and names they have.
 fn bearers_of<'p, 'v>(
     alloc: Global,
@@ -550,8 +537,6 @@ fn reported<'v>(
     Ok(Report {
         findings,
         references: count_references(sites),
-        plain_references: 0,
-        places: 0,
     })
 }
 
@@ -653,11 +638,6 @@ pub fn report<'v>(
         (findings draft (map source_of sources.now) (map source_of held.now))) }
     ensures references { IfOk result
         (λ report. report.references ≡ references draft (map source_of sources.now)) }
-    ensures plain { IfOk result
-        (λ report. report.plain_references
-        ≡ plain_references draft (map source_of sources.now)) }
-    ensures places { IfOk result
-        (λ report. report.places ≡ length (sites draft (map source_of sources.now))) }
 {
     let surveys = surveys_of(alloc, draft, sources)?;
     let others = surveys_of(alloc, draft, held)?;
@@ -671,8 +651,6 @@ pub fn report<'v>(
         &bearers,
     )?;
     let sites = bearers.sites.as_slice();
-    report.plain_references = count_plain(sites);
-    report.places = sites.len();
     add_guesses(
         alloc,
         draft,

@@ -31,6 +31,8 @@ pub(crate) struct Described<'d> {
     pub placed: usize,
     /// By the numbers of the documents, whether one is a description, or a part that a reference leads to as a whole.
     pub is_described: Vec<bool>,
+    // By these numbers, whether one has a place.
+    has_place: Vec<bool>,
     /// How many of the documents that are asked about are descriptions.
     pub descriptions: usize,
 }
@@ -104,6 +106,7 @@ impl<'d> Described<'d> {
             references: 0,
             placed: 0,
             is_described: vec![in alloc; false; workspace.len()]?,
+            has_place: vec![in alloc; false; workspace.len()]?,
             descriptions: 0,
         })
     }
@@ -158,6 +161,7 @@ impl<'d> Described<'d> {
             findings,
             references,
         } = reach;
+        self.note_parts(numbers, documents.own());
         self.note_parts(numbers, places.as_slice());
         self.places = documents.own().len().saturating_add(places.len());
         self.references = references;
@@ -190,12 +194,28 @@ impl<'d> Described<'d> {
         Ok(())
     }
 
-    // Notes which documents are parts that a reference leads to as a whole.
+    /// How many texts are under a `$ref` that is in no place, in those documents that are asked about and have a place.
+    pub fn unplaced(&self, alloc: Global, workspace: &Workspace) -> Result<usize, AllocError> {
+        let mut count: usize = 0;
+        for (number, document) in workspace.asked_about().iter().enumerate() {
+            if self.has_place.get(number).copied().unwrap_or(false) {
+                if let Some(value) = document.value() {
+                    count = count.saturating_add(texts_in(alloc, value)?);
+                }
+            }
+        }
+        Ok(count.saturating_sub(self.placed))
+    }
+
+    // Notes which documents have places, and which are parts that a reference leads to as a whole.
     fn note_parts(&mut self, numbers: &[usize], places: &[Place<'_>]) {
         for place in places {
-            if place.path.parent().is_none() {
-                if let Some(number) = numbers.get(place.document).copied() {
+            if let Some(number) = numbers.get(place.document).copied() {
+                if place.path.parent().is_none() {
                     self.note(number);
+                }
+                if let Some(has) = self.has_place.get_mut(number) {
+                    *has = true;
                 }
             }
         }
@@ -242,10 +262,10 @@ impl Workspace {
             let reach = reach(alloc, &documents)?;
             let numbers = numbered.numbers.as_slice();
             for place in documents.own() {
-                description.add(alloc, numbers, place)?;
+                description.add(alloc, self, numbers, place)?;
             }
             for place in &reach.places {
-                description.add(alloc, numbers, place)?;
+                description.add(alloc, self, numbers, place)?;
             }
             described.note_parts(numbers, reach.places.as_slice());
         }
@@ -280,12 +300,14 @@ impl<'d> Description<'d> {
     fn add(
         &mut self,
         alloc: Global,
+        workspace: &Workspace,
         numbers: &[usize],
         place: &Place<'_>,
     ) -> Result<(), AllocError> {
         let Some(document) = numbers.get(place.document).copied() else {
             return Ok(());
         };
+        let root = workspace.value(document);
         let path = own_path(alloc, place, Under::Itself)?;
         self.places.push(DescribedPlace {
             document,
@@ -295,7 +317,9 @@ impl<'d> Description<'d> {
         })?;
         for reference in references(alloc, place.reading, place.value)? {
             if let Some(text) = reference.text {
-                self.add_reference(alloc, document, place, text)?;
+                if !is_mapped_name(root, reference.under, text) {
+                    self.add_reference(alloc, document, place, text)?;
+                }
             }
         }
         Ok(())
@@ -327,6 +351,20 @@ impl<'d> Description<'d> {
                 Ok(())
             }
         }
+    }
+}
+
+// Whether a text of a mapping is the name of a schema among the components of a document.
+fn is_mapped_name(root: Option<&Value>, under: Under, text: &str) -> bool {
+    let Some(root) = root else {
+        return false;
+    };
+    if under != Under::Mapping {
+        return false;
+    }
+    match root.pointer("/components/schemas") {
+        Some(schemas) => schemas.get(text).is_some(),
+        None => false,
     }
 }
 
@@ -449,6 +487,38 @@ fn add_placed(
         if number < asked && place.value.get("$ref").is_some_and(Value::is_string) {
             let pointer = pointer_at(alloc, place)?;
             seen.insert((number, pointer), ())?;
+        }
+    }
+    Ok(())
+}
+
+// How many texts are under a `$ref` in a value, at any depth.
+fn texts_in(alloc: Global, value: &Value) -> Result<usize, AllocError> {
+    let mut count: usize = 0;
+    let mut waiting = Vec::new(alloc);
+    waiting.push(value)?;
+    for _ in 0..u64::MAX {
+        let Some(value) = waiting.pop() else {
+            break;
+        };
+        if value.get("$ref").is_some_and(Value::is_string) {
+            count = count.saturating_add(1);
+        }
+        push_below(&mut waiting, value)?;
+    }
+    Ok(count)
+}
+
+// Adds the values in a value.
+fn push_below<'v>(waiting: &mut Vec<&'v Value>, value: &'v Value) -> Result<(), AllocError> {
+    if let Some(members) = value.as_object() {
+        for (_, member) in members.iter() {
+            waiting.push(member)?;
+        }
+    }
+    if let Some(items) = value.as_array() {
+        for item in items {
+            waiting.push(item)?;
         }
     }
     Ok(())

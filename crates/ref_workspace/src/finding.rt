@@ -11,14 +11,14 @@ use std::rc::Rc;
 pub struct Report<'d> {
     /// What is wrong, and what is noted.
     pub findings: Vec<Finding<'d>>,
-    /// How many places were looked at: schemas, and objects of descriptions.
-    pub places: usize,
-    /// How many references they have.
+    /// How many references were looked at: those of schemas, and those of descriptions and of what these lead to.
     pub references: usize,
-    /// How many texts are under a `$ref` that is in no place.
-    pub unplaced: usize,
-    /// How many documents are descriptions.
+    /// How many of the documents that are asked about are descriptions.
     pub descriptions: usize,
+    /// How many places the descriptions have: objects, and what references lead to.
+    pub places: usize,
+    /// How many texts are under a `$ref` that is in no such place, in the descriptions and in the documents that they lead into.
+    pub unplaced: usize,
 }
 
 /// Something that is wrong with a document, or a note on it.

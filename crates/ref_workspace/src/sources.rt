@@ -76,38 +76,6 @@ fn push_number(list: &mut Vec<usize>, number: usize) -> Result<(), AllocError> {
     Ok(())
 }
 
-// How many texts are under a `$ref` in a value, at any depth.
-fn texts_in(alloc: Global, value: &Value) -> Result<usize, AllocError> {
-    let mut count: usize = 0;
-    let mut waiting = Vec::new(alloc);
-    waiting.push(value)?;
-    for _ in 0..u64::MAX {
-        let Some(value) = waiting.pop() else {
-            break;
-        };
-        if value.get("$ref").is_some_and(Value::is_string) {
-            count = count.saturating_add(1);
-        }
-        push_below(&mut waiting, value)?;
-    }
-    Ok(count)
-}
-
-// Adds the values in a value.
-fn push_below<'v>(waiting: &mut Vec<&'v Value>, value: &'v Value) -> Result<(), AllocError> {
-    if let Some(members) = value.as_object() {
-        for (_, member) in members.iter() {
-            waiting.push(member)?;
-        }
-    }
-    if let Some(items) = value.as_array() {
-        for item in items {
-            waiting.push(item)?;
-        }
-    }
-    Ok(())
-}
-
 impl Workspace {
     // The sources of those documents that references may lead into.
     fn others<'d>(&'d self, alloc: Global) -> Result<Vec<Source<'d>>, AllocError>
@@ -162,33 +130,20 @@ impl Workspace {
         let described = Described::of(alloc, self)?;
         let mut numbers = Vec::new(alloc);
         let plain = self.plain_report(alloc, described.is_described.as_slice(), &mut numbers)?;
-        let places = described.places.saturating_add(plain.places);
         let references = described.references.saturating_add(plain.references);
-        let placed = described.placed.saturating_add(plain.plain_references);
-        let descriptions = described.descriptions;
+        let (places, descriptions) = (described.places, described.descriptions);
+        let unplaced = described.unplaced(alloc, self)?;
         let mut findings = Vec::new(alloc);
         push_plain(&mut findings, plain.findings, numbers.as_slice())?;
         push_all(&mut findings, described.findings)?;
         self.add_faults(alloc, &mut findings)?;
-        let texts = self.texts_under_ref(alloc)?;
         Ok(Report {
             findings,
-            places,
             references,
-            unplaced: texts.saturating_sub(placed),
             descriptions,
+            places,
+            unplaced,
         })
-    }
-
-    // How many texts are under a `$ref` in the documents that are asked about, wherever they are.
-    fn texts_under_ref(&self, alloc: Global) -> Result<usize, AllocError> {
-        let mut count: usize = 0;
-        for document in self.asked_about() {
-            if let Some(value) = document.value() {
-                count = count.saturating_add(texts_in(alloc, value)?);
-            }
-        }
-        Ok(count)
     }
 
     // Adds which retrieved documents have no value, and which texts of them mean no URI.
