@@ -1,7 +1,0 @@
-pub mod Versions
-pub mod Fields
-pub mod Readings
-pub mod Below
-pub mod References
-pub mod Views
-pub mod inner

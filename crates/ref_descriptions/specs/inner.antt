@@ -1,2 +1,0 @@
--- What no public clause cites.
-pub mod Adding
