@@ -4,16 +4,17 @@ use crate::opened::{Opened, open_file, reported};
 use clap::ArgMatches;
 use ref_bundle::{Bundle, Embedded};
 use ref_command_line::{Console, Stop, say, say_failures, say_of};
+use ref_descriptions::version_of;
 use ref_draft::Draft;
 use ref_files::{Format, WriteError, parsed, write_file};
-use ref_findings::{Finding, Problem};
+use ref_findings::Problem;
 use ref_index::Place;
 use ref_messages::{Level, Plain, push_text};
 use ref_parts::pointer_of;
 use ref_positions::splice::{Added, Part, with_added, with_parts};
 use ref_uri::UriRef;
-use ref_workspace::Describer;
 use ref_workspace::world::{World, outside_of, world_above};
+use ref_workspace::{Describer, Finding};
 use referencing::{Registry, ResourceRef};
 use serde_json::Value;
 use std::alloc::{AllocError, Global};
@@ -46,9 +47,28 @@ fn bundle_opened(
     given: &ArgMatches<'_>,
     opened: &Opened<'_>,
 ) -> Result<u8, Stop> {
+    if refuses_description(rt, opened) {
+        return Ok(1);
+    }
     let list = opened.workspace.full_report(rt.alloc())?.findings;
     let outside = reported(rt, outside_of(rt.alloc(), list.as_slice()))?;
     bundle_above(rt, console, given, opened, list.as_slice(), &outside)
+}
+
+// Whether the root is a description, which isn't bundled; and says so.
+fn refuses_description(rt: &HostRuntime, opened: &Opened<'_>) -> bool {
+    let Some(document) = opened.workspace.documents().first() else {
+        return false;
+    };
+    if !document
+        .value()
+        .is_some_and(|root| version_of(root).is_some())
+    {
+        return false;
+    }
+    let why = "this is an API description: a bundle is made of JSON Schema documents alone";
+    say_of(rt, document.name.as_str(), why);
+    true
 }
 
 // The bundle of what was read, above a registry of what stays outside.
@@ -596,22 +616,24 @@ fn is_absolute(text: &str) -> bool {
 
 // Whether a finding is of interest for a bundle of these documents.
 fn concerns(finding: &Finding<'_>, needed: &[bool]) -> bool {
-    match &finding.problem {
-        Problem::DuplicateIdentifier { first, .. } => {
+    match finding.problem.plain() {
+        Some(Problem::DuplicateIdentifier { first, .. }) => {
             finding.keyword.is_none()
                 && (is_true(needed, finding.source) || is_true(needed, first.source))
         }
-        Problem::NotJson
-        | Problem::InvalidUri(_)
-        | Problem::MissingDocument { .. }
-        | Problem::LeadsNowhere { .. } => is_true(needed, finding.source),
+        Some(
+            Problem::NotJson
+            | Problem::InvalidUri(_)
+            | Problem::MissingDocument { .. }
+            | Problem::LeadsNowhere { .. },
+        ) => is_true(needed, finding.source),
         _ => false,
     }
 }
 
 // Whether a document with this finding can't be bundled.
 fn is_fault(finding: &Finding<'_>) -> bool {
-    !matches!(finding.problem, Problem::LeadsNowhere { .. })
+    !matches!(finding.problem.plain(), Some(Problem::LeadsNowhere { .. }))
 }
 
 fn is_true(flags: &[bool], number: usize) -> bool {

@@ -4,9 +4,9 @@ use crate::message::message_at;
 use crate::opened::{Opened, open_given};
 use clap::ArgMatches;
 use ref_command_line::{Console, Stop, say};
-use ref_findings::{Finding, Problem};
+use ref_findings::Problem;
 use ref_messages::{Level, Message, push_annotation, push_line, push_sarif, push_text};
-use ref_workspace::{Describer, Document, RULES};
+use ref_workspace::{Describer, Document, Finding, RULES};
 use std::alloc::{AllocError, Global};
 use std::io;
 use std::time::Instant;
@@ -23,7 +23,11 @@ enum Form {
 // How many references and findings there are.
 #[derive(Clone, Copy, Drop)]
 struct Count {
+    descriptions: usize,
+    places: usize,
     references: usize,
+    // How many texts are under a `$ref` that is in no place.
+    unplaced: usize,
     errors: usize,
     warnings: usize,
     notes: usize,
@@ -121,7 +125,10 @@ fn other_roots_in(documents: &[Document]) -> usize {
 fn unread_in(findings: &[Finding<'_>]) -> usize {
     let mut count: usize = 0;
     for finding in findings {
-        if matches!(finding.problem, Problem::NotJson | Problem::NotChecked) {
+        if matches!(
+            finding.problem.plain(),
+            Some(Problem::NotJson | Problem::NotChecked)
+        ) {
             count = count.saturating_add(1);
         }
     }
@@ -151,7 +158,10 @@ fn list_all(
     let findings = report.findings.as_slice();
     let mut describer = Describer::new(alloc, &opened.workspace, findings, is_verbose)?;
     let mut count = Count {
+        descriptions: report.descriptions,
+        places: report.places,
         references: report.references,
+        unplaced: report.unplaced,
         errors: 0,
         warnings: 0,
         notes: 0,
@@ -261,6 +271,12 @@ fn summary(rt: &HostRuntime, files: usize, count: Count, passed: usize) -> Resul
     let mut line = String::new(rt.alloc());
     push_count(&mut line, files, "file")?;
     line.push_str(", ")?;
+    if count.descriptions > 0 {
+        push_count(&mut line, count.descriptions, "description")?;
+        line.push_str(" with ")?;
+        push_count(&mut line, count.places, "place")?;
+        line.push_str(", ")?;
+    }
     push_count(&mut line, count.references, "reference")?;
     line.push_str(", ")?;
     push_count(&mut line, count.errors, "error")?;
@@ -268,6 +284,11 @@ fn summary(rt: &HostRuntime, files: usize, count: Count, passed: usize) -> Resul
     push_count(&mut line, count.warnings, "warning")?;
     line.push_str(", ")?;
     push_count(&mut line, count.notes, "note")?;
+    if count.unplaced > 0 {
+        line.push_str(", ")?;
+        push_count(&mut line, count.unplaced, "text")?;
+        line.push_str(" under $ref in no place")?;
+    }
     if passed > 0 {
         line.push_str(", ")?;
         push_count(&mut line, passed, "YAML file")?;

@@ -1,11 +1,12 @@
 //! The places of a document, a line each.
+use ref_descriptions::Version;
 use ref_draft::Draft;
 use ref_index::Place;
 use ref_messages::Plain;
 use ref_parts::pointer_of;
 use ref_positions::{Places, Position};
-use ref_workspace::Document;
 use ref_workspace::pointer::place_of;
+use ref_workspace::{DescribedPlace, Description, Document};
 use serde_json::Value;
 use std::alloc::{AllocError, Global};
 
@@ -77,6 +78,86 @@ fn push_place(
     )?;
     push_names(out, place.draft, place.value)?;
     out.push('\n')
+}
+
+/// Adds a line for each place that descriptions have in a document, whose number is given: where it is, what it is, by which version, and its
+/// base URI.
+pub fn push_described(
+    alloc: Global,
+    out: &mut String,
+    document: &Document,
+    number: usize,
+    description: &Description<'_>,
+) -> Result<(), AllocError> {
+    let mut asked = Places::new(alloc)?;
+    let pushed = push_all_described(alloc, out, document, number, description, &mut asked);
+    drop(asked);
+    pushed
+}
+
+fn push_all_described(
+    alloc: Global,
+    out: &mut String,
+    document: &Document,
+    number: usize,
+    description: &Description<'_>,
+    asked: &mut Places,
+) -> Result<(), AllocError> {
+    let mut numbers = Vec::new(alloc);
+    for place in &description.places {
+        if place.document == number {
+            numbers.push(place_of(asked, place.path.as_slice())?)?;
+        }
+    }
+    if numbers.is_empty() {
+        return Ok(());
+    }
+    let located = asked.locate(alloc, document.text.text.as_str())?;
+    let own = description
+        .places
+        .iter()
+        .filter(|place| place.document == number);
+    for (place, number) in own.zip(numbers.iter()) {
+        push_described_place(alloc, out, document, place, located.value(*number))?;
+    }
+    Ok(())
+}
+
+fn push_described_place(
+    alloc: Global,
+    out: &mut String,
+    document: &Document,
+    place: &DescribedPlace<'_>,
+    position: Option<Position<'_>>,
+) -> Result<(), AllocError> {
+    let (line, column) = match position {
+        Some(position) => (position.line(), position.column()),
+        None => (1, 1),
+    };
+    let pointer = pointer_of(alloc, place.path.as_slice())?;
+    let file = Plain(document.name.as_str());
+    let kind = place.reading.kind.name();
+    write!(
+        out,
+        "{file}:{line}:{column}: '{}' {kind}",
+        Plain(pointer.as_str())
+    )?;
+    if let Some(version) = place.reading.version {
+        write!(out, " {}", version_name(version))?;
+    }
+    if place.reading.is_by_draft() {
+        write!(out, " draft {}", place.reading.draft.name())?;
+    }
+    write!(out, " base {}\n", place.base.as_str())
+}
+
+fn version_name(version: Version) -> &'static str {
+    match version {
+        Version::V2_0 => "2.0",
+        Version::V3_0 => "3.0",
+        Version::V3_1 => "3.1",
+        Version::V3_2 => "3.2",
+    }
 }
 
 // The identifier and the anchors of a place.

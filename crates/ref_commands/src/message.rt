@@ -40,7 +40,7 @@ fn help_at(
     place: usize,
 ) -> Result<(Option<String>, bool), AllocError> {
     if let Some(finding) = describer.finding(place) {
-        if let Problem::MissingDocument { uri } = &finding.problem {
+        if let Some(Problem::MissingDocument { uri }) = finding.problem.plain() {
             if let Some(path) = beside(rt, opened, finding.source, uri.as_str())? {
                 let help = ["--with ", path.as_str()].join(rt.alloc(), "")?;
                 return Ok((Some(help), true));

@@ -1,13 +1,13 @@
 //! `patchsard places`.
 
-use crate::listing::push_document;
+use crate::listing::{push_described, push_document};
 use crate::opened::{open_given, reported};
 use clap::ArgMatches;
 use ref_command_line::{Console, Stop, say_of};
 use ref_files::Format;
 use ref_index::Place;
 use ref_workspace::world::world_of;
-use ref_workspace::{Document, Workspace, World};
+use ref_workspace::{Description, Document, Workspace, World};
 use std::alloc::Global;
 
 /// Lists each subschema of files. The status is 0, 1 where a file has no places for a fault of its own, and 2 where a
@@ -30,7 +30,7 @@ fn listed(rt: &HostRuntime, console: &mut Console<'_>, workspace: &Workspace) ->
     let trees = workspace.mended(alloc)?;
     let world = reported(rt, world_of(alloc, workspace, trees.as_slice()))?;
     let documents = workspace.documents();
-    list_all(alloc, console, documents, &world)?;
+    list_all(alloc, console, workspace, &world)?;
     Ok(report_left_out(rt, documents))
 }
 
@@ -53,21 +53,34 @@ fn report_left_out(rt: &HostRuntime, documents: &[Document]) -> u8 {
 fn list_all(
     alloc: Global,
     console: &mut Console<'_>,
-    documents: &[Document],
+    workspace: &Workspace,
     world: &World<'_>,
 ) -> Result<(), Stop> {
+    let description = workspace.description(alloc)?;
     let places = world.places(alloc)?;
     let mut rest = places.as_slice();
     for (number, source) in world.sources.iter().enumerate() {
         let count = count_of(rest, number);
-        if let Some(document) = documents.get(*source) {
+        if let Some(document) = workspace.documents().get(*source) {
             let own = rest.get(..count).unwrap_or(rest);
-            push_document(alloc, &mut console.out, document, own)?;
+            if !is_described(&description, *source) {
+                push_document(alloc, &mut console.out, document, own)?;
+            }
+            push_described(alloc, &mut console.out, document, *source, &description)?;
             console.pass()?;
         }
         rest = rest.get(count..).unwrap_or(&[]);
     }
     Ok(())
+}
+
+// Whether the document with a number is a description, or a part of one that a reference leads to as a whole.
+fn is_described(description: &Description<'_>, number: usize) -> bool {
+    description
+        .is_described
+        .get(number)
+        .copied()
+        .unwrap_or(false)
 }
 
 // How many places come first that are those of a document.

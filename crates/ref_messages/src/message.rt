@@ -53,7 +53,7 @@ pub struct Message<'m> {
     /// What is wrong.
     pub text: String,
     /// The keyword whose text it is about.
-    pub keyword: Option<&'static str>,
+    pub keyword: Option<&'m str>,
     /// The text under the keyword, as it is in the file.
     pub reference: Option<&'m str>,
     /// The URI that the text was resolved to.

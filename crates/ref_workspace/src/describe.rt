@@ -1,14 +1,16 @@
 //! Findings as messages.
 use crate::documents::{meant_document, other_uri};
+use crate::finding::{Finding, Problem};
 use crate::resources::Resources;
 use crate::rules::code_of;
 use crate::spots::{Spots, first_of, spots_of};
 use crate::suggestions::suggestion;
 use crate::workspace::Workspace;
+use ref_descriptions::Kind;
 use ref_draft::Draft;
 use ref_error::Error;
 use ref_files::Fault;
-use ref_findings::{Bearer, Finding, Level as Severity, Problem};
+use ref_findings::{Bearer, Level as Severity, Problem as Plain};
 use ref_messages::{Level, Message, Other, Suggester};
 use ref_parts::pointer_of;
 use ref_uri::Uri;
@@ -120,45 +122,54 @@ impl<'l, 'd> Describer<'l, 'd> {
     }
 
     fn text(&self, finding: &Finding<'_>) -> Result<String, AllocError> {
-        let alloc = self.alloc;
         match &finding.problem {
-            Problem::NotJson => self.not_json(finding.source),
-            Problem::NotChecked => description_text(alloc, finding.keyword, finding.text),
-            Problem::NotAText => {
+            Problem::Plain(problem) => self.plain_text(finding, problem),
+            Problem::WrongKind { is, wanted, .. } => {
+                wrong_kind_text(self.alloc, finding.text.unwrap_or(""), *is, *wanted)
+            }
+        }
+    }
+
+    fn plain_text(&self, finding: &Finding<'_>, problem: &Plain<'_>) -> Result<String, AllocError> {
+        let alloc = self.alloc;
+        match problem {
+            Plain::NotJson => self.not_json(finding.source),
+            Plain::NotChecked => description_text(alloc, finding.keyword, finding.text),
+            Plain::NotAText => {
                 let keyword = finding.keyword.unwrap_or("");
                 ["The value of ", keyword, " is no text"].join(alloc, "")
             }
-            Problem::RecursiveElsewhere => {
+            Plain::RecursiveElsewhere => {
                 String::from_str(alloc, "A $recursiveRef is to be '#', in Draft 2019-09")
             }
-            Problem::NamesNothing => nameless_text(alloc, finding.text),
-            Problem::InvalidUri(error) => error.to_string(alloc),
-            Problem::LeadsNowhere { error, .. } => error.to_string(alloc),
-            Problem::MissingDocument { uri } => {
+            Plain::NamesNothing => nameless_text(alloc, finding.text),
+            Plain::InvalidUri(error) => error.to_string(alloc),
+            Plain::LeadsNowhere { error, .. } => error.to_string(alloc),
+            Plain::MissingDocument { uri } => {
                 ["Document '", uri.as_str(), "' is not among the given files"].join(alloc, "")
             }
-            Problem::Unchecked { uri } => [
+            Plain::Unchecked { uri } => [
                 "Meta-schema '",
                 uri.as_str(),
                 "' is not among the given files: the fragment is not checked",
             ]
             .join(alloc, ""),
-            Problem::UnknownDialect { uri } => [
+            Plain::UnknownDialect { uri } => [
                 "Meta-schema '",
                 uri.as_str(),
                 "' is not among the given files: read as Draft 2020-12",
             ]
             .join(alloc, ""),
-            Problem::DuplicateIdentifier { uri, .. } => {
+            Plain::DuplicateIdentifier { uri, .. } => {
                 ["Two schemas have the identifier '", uri.as_str(), "'"].join(alloc, "")
             }
-            Problem::DuplicateAnchor { uri, .. } => anchor_text(alloc, uri, finding.text),
-            Problem::GuessedDraft { draft, .. } => referred_text(
+            Plain::DuplicateAnchor { uri, .. } => anchor_text(alloc, uri, finding.text),
+            Plain::GuessedDraft { draft, .. } => referred_text(
                 alloc,
                 self.workspace.draft(),
                 *draft,
             ),
-            Problem::ListOfItems => String::from_str(
+            Plain::ListOfItems => String::from_str(
                 alloc,
                 "The file names no draft and is read as Draft 2020-12, where items is one schema, not a list",
             ),
@@ -174,9 +185,9 @@ impl<'l, 'd> Describer<'l, 'd> {
     }
 
     fn suggestion(&mut self, finding: &Finding<'_>) -> Result<Option<String>, AllocError> {
-        match &finding.problem {
-            Problem::LeadsNowhere { uri, error } => self.suggestion_in(uri, error),
-            Problem::MissingDocument { uri } => self.suggested_document(finding, uri),
+        match finding.problem.plain() {
+            Some(Plain::LeadsNowhere { uri, error }) => self.suggestion_in(uri, error),
+            Some(Plain::MissingDocument { uri }) => self.suggested_document(finding, uri),
             _ => Ok(None),
         }
     }
@@ -229,8 +240,8 @@ impl<'l, 'd> Describer<'l, 'd> {
     }
 
     fn help_on(&mut self, finding: &Finding<'_>) -> Result<Option<String>, AllocError> {
-        match &finding.problem {
-            Problem::MissingDocument { uri } => {
+        match finding.problem.plain() {
+            Some(Plain::MissingDocument { uri }) => {
                 other_uri(
                     self.alloc,
                     &mut self.suggester,
@@ -238,11 +249,11 @@ impl<'l, 'd> Describer<'l, 'd> {
                     uri.as_str(),
                 )
             }
-            Problem::GuessedDraft { draft, .. } => {
+            Some(Plain::GuessedDraft { draft, .. }) => {
                 let help = ["--draft ", draft.name(), ", or a $schema in the file"];
                 Ok(Some(help.join(self.alloc, "")?))
             }
-            Problem::ListOfItems => {
+            Some(Plain::ListOfItems) => {
                 let help = "--draft with an earlier draft, or a $schema in the file";
                 Ok(Some(String::from_str(self.alloc, help)?))
             }
@@ -304,7 +315,7 @@ fn order_of(
 ) -> Result<Vec<(usize, usize, usize, usize)>, AllocError> {
     let mut order = Vec::new(alloc);
     for (number, finding) in list.iter().enumerate() {
-        if is_verbose || !matches!(finding.problem, Problem::Unchecked { .. }) {
+        if is_verbose || !matches!(finding.problem.plain(), Some(Plain::Unchecked { .. })) {
             let (line, column) = position_of(workspace, spots, number, finding);
             order.push((finding.source, line, column, number))?;
         }
@@ -354,6 +365,35 @@ fn description_text(
     .join(alloc, "")
 }
 
+// That a reference leads to an object of another kind than the one that is needed.
+fn wrong_kind_text(
+    alloc: Global,
+    reference: &str,
+    is: Kind,
+    wanted: Kind,
+) -> Result<String, AllocError> {
+    [
+        "'",
+        reference,
+        "' is ",
+        with_article(alloc, is.name())?.as_str(),
+        ", and ",
+        with_article(alloc, wanted.name())?.as_str(),
+        " is needed",
+    ]
+    .join(alloc, "")
+}
+
+// A noun with its article.
+fn with_article(alloc: Global, noun: &str) -> Result<String, AllocError> {
+    let article = if noun.starts_with(['a', 'e', 'i', 'o', 'u']) {
+        "an "
+    } else {
+        "a "
+    };
+    [article, noun].join(alloc, "")
+}
+
 // That what follows a `#` names nothing.
 fn nameless_text(alloc: Global, text: Option<&str>) -> Result<String, AllocError> {
     let name = text.unwrap_or("").trim_start_matches('#');
@@ -384,9 +424,10 @@ fn anchor_text<'x>(
 // What the text under a keyword was resolved to, where nothing else says it.
 fn resolved(alloc: Global, finding: &Finding<'_>) -> Result<Option<String>, AllocError> {
     let uri = match &finding.problem {
-        Problem::MissingDocument { uri } => uri,
-        Problem::LeadsNowhere { uri, .. } => uri,
-        Problem::Unchecked { uri } => uri,
+        Problem::Plain(Plain::MissingDocument { uri }) => uri,
+        Problem::Plain(Plain::LeadsNowhere { uri, .. }) => uri,
+        Problem::Plain(Plain::Unchecked { uri }) => uri,
+        Problem::WrongKind { uri, .. } => uri,
         _ => return Ok(None),
     };
     let mut text = String::from_str(alloc, uri.as_str())?;

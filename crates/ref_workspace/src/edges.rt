@@ -1,9 +1,11 @@
 //! Which file refers to which.
+use crate::described::{DescribedReference, Description};
+use crate::finding::{Finding, Problem};
 use crate::workspace::Workspace;
 use crate::world::{World, bearers, without_fragment, world_of};
 use ref_draft::Draft;
 use ref_error::Error;
-use ref_findings::{Finding, Problem};
+use ref_findings::Problem as Plain;
 use ref_index::Place;
 use ref_messages::{Edge, Graph, Node};
 use ref_uri::Uri;
@@ -17,7 +19,8 @@ pub fn graph_of(alloc: Global, workspace: &Workspace, is_connected: bool) -> Res
     let list = workspace.full_report(alloc)?.findings;
     let trees = workspace.mended(alloc)?;
     let world = world_of(alloc, workspace, trees.as_slice())?;
-    let mut graph = drawn(alloc, workspace, &world, list.as_slice())?;
+    let description = workspace.description(alloc)?;
+    let mut graph = drawn(alloc, workspace, &world, &description, list.as_slice())?;
     if is_connected {
         graph.leave_out_lone();
     }
@@ -28,10 +31,11 @@ fn drawn(
     alloc: Global,
     workspace: &Workspace,
     world: &World<'_>,
+    description: &Description<'_>,
     list: &[Finding<'_>],
 ) -> Result<Graph, AllocError> {
     let mut drawing = Drawing::new(alloc, workspace, world)?;
-    match drawing.add_all(workspace, world, list) {
+    match drawing.add_all(workspace, world, description, list) {
         Ok(()) => drawing.finish(),
         Err(error) => {
             drop(drawing);
@@ -72,10 +76,14 @@ impl Drawing {
         &mut self,
         workspace: &Workspace,
         world: &World<'_>,
+        description: &Description<'_>,
         list: &[Finding<'_>],
     ) -> Result<(), AllocError> {
         self.add_documents(workspace, world)?;
-        self.add_references(world)?;
+        self.add_references(world, description.is_described.as_slice())?;
+        for reference in &description.references {
+            self.add_described(reference)?;
+        }
         self.add_broken(list)
     }
 
@@ -94,15 +102,28 @@ impl Drawing {
         Ok(())
     }
 
-    // Adds the references of the documents.
-    fn add_references(&mut self, world: &World<'_>) -> Result<(), AllocError> {
+    // Adds the references of schemas, but for those of descriptions.
+    fn add_references(
+        &mut self,
+        world: &World<'_>,
+        is_described: &[bool],
+    ) -> Result<(), AllocError> {
         let places = world.places(self.alloc)?;
         for place in &places {
-            if place.document < world.sources.len() {
-                self.add_reference(world, place)?;
+            if let Some(source) = world.sources.get(place.document) {
+                if !is_described.get(*source).copied().unwrap_or(false) {
+                    self.add_reference(world, place)?;
+                }
             }
         }
         Ok(())
+    }
+
+    // Adds a reference of a description.
+    fn add_described(&mut self, reference: &DescribedReference) -> Result<(), AllocError> {
+        let from = self.numbers.get(reference.document).copied().unwrap_or(0);
+        let text = if reference.is_fragment { "#" } else { "" };
+        self.add(from, text, &reference.uri)
     }
 
     // Adds the reference of a place, where it has one that means a URI.
@@ -149,8 +170,9 @@ impl Drawing {
     fn add_broken(&mut self, findings: &[Finding<'_>]) -> Result<(), AllocError> {
         for finding in findings {
             match &finding.problem {
-                Problem::MissingDocument { uri } => self.count_broken(finding, uri)?,
-                Problem::LeadsNowhere { uri, .. } => self.count_broken(finding, uri)?,
+                Problem::Plain(Plain::MissingDocument { uri }) => self.count_broken(finding, uri)?,
+                Problem::Plain(Plain::LeadsNowhere { uri, .. }) => self.count_broken(finding, uri)?,
+                Problem::WrongKind { uri, .. } => self.count_broken(finding, uri)?,
                 _ => {}
             }
         }

@@ -4,8 +4,10 @@
 #![tactic(auto)]
 
 mod describe;
+mod described;
 mod documents;
 mod edges;
+mod finding;
 pub mod follow;
 pub mod pointer;
 mod resources;
@@ -17,7 +19,9 @@ mod workspace;
 pub mod world;
 
 pub use describe::Describer;
+pub use described::{DescribedPlace, DescribedReference, Description};
 pub use edges::graph_of;
+pub use finding::{Finding, Problem, Report};
 pub use rules::RULES;
 pub use workspace::{Document, Workspace};
 pub use world::World;

@@ -1,7 +1,8 @@
 //! The kinds of findings.
+use crate::finding::Problem;
 use ref_error::Error;
 use ref_files::Format;
-use ref_findings::Problem;
+use ref_findings::Problem as Plain;
 use ref_messages::Rule;
 
 /// The kinds of findings, each with what it says.
@@ -16,7 +17,7 @@ pub const RULES: &[Rule] = &[
     },
     Rule {
         code: "not-checked",
-        text: "The file is an API description, of which only references in JSON Schema places are checked",
+        text: "The file is a description of AsyncAPI, or of a version of OpenAPI that is not known: only references in JSON Schema places are checked",
     },
     Rule {
         code: "guessed-draft",
@@ -75,6 +76,10 @@ pub const RULES: &[Rule] = &[
         text: "A $schema names a meta-schema that is not among the given files",
     },
     Rule {
+        code: "wrong-kind",
+        text: "A reference of an API description leads to an object of another kind than the one that is needed",
+    },
+    Rule {
         code: "unchecked-reference",
         text: "A $ref leads into a meta-schema that is not among the given files",
     },
@@ -83,20 +88,27 @@ pub const RULES: &[Rule] = &[
 /// The kind of a problem of a document that is written so.
 pub fn code_of(problem: &Problem<'_>, format: Format) -> &'static str {
     match problem {
-        Problem::NotJson if format == Format::Yaml => "not-yaml",
-        Problem::NotJson => "not-json",
-        Problem::NotChecked => "not-checked",
-        Problem::NotAText => "not-a-text",
-        Problem::RecursiveElsewhere => "recursive-ref-elsewhere",
-        Problem::NamesNothing => "identifier-names-nothing",
-        Problem::InvalidUri(_) => "invalid-uri",
-        Problem::MissingDocument { .. } => "missing-document",
-        Problem::LeadsNowhere { error, .. } => code_of_fault(error),
-        Problem::Unchecked { .. } => "unchecked-reference",
-        Problem::UnknownDialect { .. } => "unknown-dialect",
-        Problem::DuplicateIdentifier { .. } => "duplicate-identifier",
-        Problem::DuplicateAnchor { .. } => "duplicate-anchor",
-        Problem::GuessedDraft { .. } | Problem::ListOfItems => "guessed-draft",
+        Problem::Plain(Plain::NotJson) if format == Format::Yaml => "not-yaml",
+        Problem::Plain(problem) => code_of_plain(problem),
+        Problem::WrongKind { .. } => "wrong-kind",
+    }
+}
+
+fn code_of_plain(problem: &Plain<'_>) -> &'static str {
+    match problem {
+        Plain::NotJson => "not-json",
+        Plain::NotChecked => "not-checked",
+        Plain::NotAText => "not-a-text",
+        Plain::RecursiveElsewhere => "recursive-ref-elsewhere",
+        Plain::NamesNothing => "identifier-names-nothing",
+        Plain::InvalidUri(_) => "invalid-uri",
+        Plain::MissingDocument { .. } => "missing-document",
+        Plain::LeadsNowhere { error, .. } => code_of_fault(error),
+        Plain::Unchecked { .. } => "unchecked-reference",
+        Plain::UnknownDialect { .. } => "unknown-dialect",
+        Plain::DuplicateIdentifier { .. } => "duplicate-identifier",
+        Plain::DuplicateAnchor { .. } => "duplicate-anchor",
+        Plain::GuessedDraft { .. } | Plain::ListOfItems => "guessed-draft",
     }
 }
 

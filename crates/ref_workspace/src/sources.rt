@@ -8,9 +8,11 @@ ghost use Rattle.ref_workspace.specs.Open.{document_of, workspace_of};
 ghost use Rattle.ref_workspace.specs.Workspace as spec;
 ghost use Rattle.ref_workspace.specs.Workspace.{as_source};
 
+use crate::described::Described;
+use crate::finding::{Finding, Report, plain, push, push_all, push_plain};
 use crate::workspace::{Document, Workspace};
 use ref_draft::Draft;
-use ref_findings::{Finding, Held, Problem, Report, Source, as_sources, mended, report};
+use ref_findings::{Held, Problem, Report as SchemaReport, Source, as_sources, mended, report};
 use serde_json::Value;
 use std::alloc::{AllocError, Global};
 
@@ -61,9 +63,16 @@ pub(crate) fn faulty_of(
     Ok(faulty)
 }
 
-// Adds a finding after the others.
-fn push_finding<'d>(list: &mut Vec<Finding<'d>>, finding: Finding<'d>) -> Result<(), AllocError> {
-    list.push(finding)?;
+// Adds the source that a document is.
+fn push_source<'d>(list: &mut Vec<Source<'d>>, document: &'d Document) -> Result<(), AllocError> {
+    let uri = document.uri.clone()?;
+    let value = document.value();
+    list.push(Source { uri, value })?;
+    Ok(())
+}
+
+fn push_number(list: &mut Vec<usize>, number: usize) -> Result<(), AllocError> {
+    list.push(number)?;
     Ok(())
 }
 
@@ -79,7 +88,7 @@ impl Workspace {
     }
 
     /// What is wrong with the documents that are asked about, and how many references they have. Fails only if out of memory.
-    pub fn report<'d>(&'d self, alloc: Global) -> Result<Report<'d>, AllocError>
+    pub fn report<'d>(&'d self, alloc: Global) -> Result<SchemaReport<'d>, AllocError>
         ensures findings { IfOk result
             (λ report. AllZip IsFindingOf report.findings.items
             (spec.findings (workspace_of self.now))) }
@@ -91,12 +100,50 @@ impl Workspace {
         report(alloc, self.draft(), own.as_slice(), others.as_slice())
     }
 
-    /// What [`Workspace::report`] lists, and after it which retrieved documents have no value, and which texts of them mean no URI. Fails
-    /// only if out of memory.
+    // What is wrong with those documents that are asked about and aren't parts of descriptions, which references may still lead into.
+    // The numbers are those of the documents that are judged.
+    fn plain_report<'d>(
+        &'d self,
+        alloc: Global,
+        is_described: &[bool],
+        numbers: &mut Vec<usize>,
+    ) -> Result<SchemaReport<'d>, AllocError> {
+        let mut own = Vec::new(alloc);
+        let mut others = Vec::new(alloc);
+        for (number, document) in self.documents().iter().enumerate() {
+            let is_own = number < self.asked()
+                && !is_described.get(number).copied().unwrap_or(false);
+            if is_own {
+                push_number(numbers, number)?;
+                push_source(&mut own, document)?;
+            } else {
+                push_source(&mut others, document)?;
+            }
+        }
+        add_held(&mut others, self.held_documents())?;
+        report(alloc, self.draft(), own.as_slice(), others.as_slice())
+    }
+
+    /// What is wrong with the documents that are asked about, whatever they are, and what is to be noted; and after it which
+    /// retrieved documents have no value, and which texts of them mean no URI. Fails only if out of memory.
     pub fn full_report<'d>(&'d self, alloc: Global) -> Result<Report<'d>, AllocError> {
-        let mut report = self.report(alloc)?;
-        self.add_faults(alloc, &mut report.findings)?;
-        Ok(report)
+        let described = Described::of(alloc, self)?;
+        let mut numbers = Vec::new(alloc);
+        let plain = self.plain_report(alloc, described.is_described.as_slice(), &mut numbers)?;
+        let references = described.references.saturating_add(plain.references);
+        let (places, descriptions) = (described.places, described.descriptions);
+        let unplaced = described.unplaced(alloc, self)?;
+        let mut findings = Vec::new(alloc);
+        push_plain(&mut findings, plain.findings, numbers.as_slice())?;
+        push_all(&mut findings, described.findings)?;
+        self.add_faults(alloc, &mut findings)?;
+        Ok(Report {
+            findings,
+            references,
+            descriptions,
+            places,
+            unplaced,
+        })
     }
 
     // Adds which retrieved documents have no value, and which texts of them mean no URI.
@@ -112,9 +159,8 @@ impl Workspace {
         let sources = sources_of(alloc, retrieved)?;
         for finding in report(alloc, self.draft(), sources.as_slice(), &[])?.findings {
             if matches!(finding.problem, Problem::InvalidUri(_) | Problem::NotJson) {
-                let mut finding = finding;
-                finding.source = finding.source.saturating_add(self.opened());
-                push_finding(list, finding)?;
+                let source = finding.source.saturating_add(self.opened());
+                push(list, plain(finding, source))?;
             }
         }
         Ok(())

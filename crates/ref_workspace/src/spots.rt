@@ -1,7 +1,8 @@
 //! Where findings are in the files: one pass over each file that has some.
+use crate::finding::{Finding, Problem};
 use crate::pointer::place_of;
 use crate::workspace::Document;
-use ref_findings::{Bearer, Finding, Problem};
+use ref_findings::{Bearer, Problem as Plain};
 use ref_parts::path::JsonPointerSegment;
 use ref_parts::value_at;
 use ref_positions::{Located, Places, Position};
@@ -148,7 +149,7 @@ impl Asked {
             return Ok(0);
         };
         let keyword = match finding.problem {
-            Problem::GuessedDraft { .. } => Some("$ref"),
+            Problem::Plain(Plain::GuessedDraft { .. }) => Some("$ref"),
             _ => keyword_of(documents, bearer, finding.keyword),
         };
         self.ask(bearer.source, bearer.path.as_slice(), keyword)
@@ -157,10 +158,10 @@ impl Asked {
 
 /// The first bearer that a problem is a clash with, or the first place that refers to a document.
 pub fn first_of<'f, 'v>(problem: &'f Problem<'v>) -> Option<&'f Bearer<'v>> {
-    match problem {
-        Problem::DuplicateIdentifier { first, .. } => Some(first),
-        Problem::DuplicateAnchor { first, .. } => Some(first),
-        Problem::GuessedDraft { by, .. } => Some(by),
+    match problem.plain()? {
+        Plain::DuplicateIdentifier { first, .. } => Some(first),
+        Plain::DuplicateAnchor { first, .. } => Some(first),
+        Plain::GuessedDraft { by, .. } => Some(by),
         _ => None,
     }
 }

@@ -6,12 +6,13 @@ ghost use Rattle.ref_workspace.specs.Workspace as spec;
 
 use crate::sources::{faulty_of, sources_of};
 use ref_draft::Draft;
-use ref_error::Retrieve;
+use ref_error::{Retrieve, RetrieveError};
 use ref_files::{DocumentText, Format};
 use ref_findings::{Held, gather};
 use ref_uri::Uri;
 use serde_json::{Map, Value};
 use std::alloc::{AllocError, Global};
+use std::collections::BTreeMap;
 
 /// A document that is open.
 #[derive(Drop)]
@@ -142,7 +143,47 @@ impl Workspace {
                 push_held(&mut self.held, document)?;
             }
         }
+        self.retrieve_parts(alloc, retriever)
+    }
+
+    // Retrieves what descriptions want, again and again, each document once.
+    fn retrieve_parts<R: Retrieve>(
+        &mut self,
+        alloc: Global,
+        retriever: &R,
+    ) -> Result<(), AllocError> {
+        let mut tried = BTreeMap::new(alloc);
+        for _ in 0..u64::MAX {
+            let mut is_any_new = false;
+            for uri in self.missing_parts(alloc)? {
+                let text = String::from_str(alloc, uri.as_str())?;
+                if tried.insert(text, ())?.is_none() {
+                    is_any_new = true;
+                    self.retrieve_part(alloc, retriever, uri)?;
+                }
+            }
+            if !is_any_new {
+                break;
+            }
+        }
         Ok(())
+    }
+
+    // Retrieves a document, where the retriever has it.
+    fn retrieve_part<R: Retrieve>(
+        &mut self,
+        alloc: Global,
+        retriever: &R,
+        uri: Uri,
+    ) -> Result<(), AllocError> {
+        match retriever.retrieve(alloc, &uri) {
+            Ok(value) => push_held(&mut self.held, Held { uri, value }),
+            Err(RetrieveError::Refused(reason)) => {
+                drop(reason);
+                Ok(())
+            }
+            Err(RetrieveError::Memory(error)) => Err(error),
+        }
     }
 
     /// Adds a document that was retrieved, after all others that have a text. Fails only if out of memory, and then nothing is changed.

@@ -1,8 +1,9 @@
 //! The registry of the documents, for what goes on from one document to the next.
+use crate::finding::Finding;
 use crate::workspace::Workspace;
 use ref_draft::Draft;
 use ref_error::{Error, Retrieve, RetrieveError};
-use ref_findings::{Finding, Problem};
+use ref_findings::Problem as Plain;
 use ref_index::Place;
 use ref_uri::Uri;
 use referencing::meta::uris_for_draft;
@@ -137,7 +138,7 @@ pub fn outside_of(alloc: Global, findings: &[Finding<'_>]) -> Result<Registry<'s
         }
     }
     for finding in findings {
-        if let Problem::UnknownDialect { uri } = &finding.problem {
+        if let Some(Plain::UnknownDialect { uri }) = finding.problem.plain() {
             builder = builder.add(uri.as_str(), Value::Object(Map::new(alloc)))?;
         }
     }

@@ -1,0 +1,123 @@
+//! What is wrong with documents, or is to be noted.
+use ref_descriptions::Kind;
+use ref_findings::{Finding as SchemaFinding, Level, Problem as SchemaProblem};
+use ref_parts::path::JsonPointerSegment;
+use ref_uri::Uri;
+use std::alloc::{AllocError, Global};
+use std::rc::Rc;
+
+/// What is found in the documents of a workspace, and how much was looked at.
+#[derive(Drop)]
+pub struct Report<'d> {
+    /// What is wrong, and what is noted.
+    pub findings: Vec<Finding<'d>>,
+    /// How many references were looked at: those of schemas, and those of descriptions and of what these lead to.
+    pub references: usize,
+    /// How many of the documents that are asked about are descriptions.
+    pub descriptions: usize,
+    /// How many places the descriptions have: objects, and what references lead to.
+    pub places: usize,
+    /// How many texts are under a `$ref` that is in no such place, in the descriptions and in the documents that they lead into.
+    pub unplaced: usize,
+}
+
+/// Something that is wrong with a document, or a note on it.
+#[derive(Drop)]
+pub struct Finding<'d> {
+    /// The number of the document, counted from 0.
+    pub source: usize,
+    /// The path in the document of the value that it is about.
+    pub path: Vec<JsonPointerSegment<'d>>,
+    /// The keyword there whose text it is about; `None` where it is the document as a whole.
+    pub keyword: Option<&'d str>,
+    /// The text under that keyword, which is the document's own.
+    pub text: Option<&'d str>,
+    /// What is wrong.
+    pub problem: Problem<'d>,
+}
+
+/// What is wrong, or is noted.
+#[derive(Drop)]
+pub enum Problem<'d> {
+    /// Of a document as a whole, or of a text in it, whatever the document is.
+    Plain(SchemaProblem<'d>),
+    /// A reference of a description leads to an object of another kind than the one that is needed there.
+    WrongKind {
+        /// The URI of the document that it leads into.
+        uri: Rc<Uri>,
+        /// What the object there is.
+        is: Kind,
+        /// What it is to be.
+        wanted: Kind,
+    },
+}
+
+impl<'d> Problem<'d> {
+    /// How much it counts. Takes no memory.
+    pub fn level(&self) -> Level {
+        match self {
+            Problem::Plain(problem) => problem.level(),
+            Problem::WrongKind { .. } => Level::Error,
+        }
+    }
+
+    /// The problem, where it isn't one that descriptions alone have.
+    pub fn plain(&self) -> Option<&SchemaProblem<'d>> {
+        match self {
+            Problem::Plain(problem) => Some(problem),
+            Problem::WrongKind { .. } => None,
+        }
+    }
+}
+
+/// A finding of a schema, in the document with a number.
+pub(crate) fn plain<'d>(finding: SchemaFinding<'d>, source: usize) -> Finding<'d> {
+    let SchemaFinding {
+        source: _,
+        path,
+        keyword,
+        text,
+        problem,
+    } = finding;
+    Finding {
+        source,
+        path,
+        keyword,
+        text,
+        problem: Problem::Plain(problem),
+    }
+}
+
+/// Adds findings of schemas, each in the document whose number stands at the number of its source.
+pub(crate) fn push_plain<'d>(
+    list: &mut Vec<Finding<'d>>,
+    findings: Vec<SchemaFinding<'d>>,
+    numbers: &[usize],
+) -> Result<(), AllocError> {
+    for finding in findings {
+        if let Some(number) = numbers.get(finding.source).copied() {
+            push(list, plain(finding, number))?;
+        }
+    }
+    Ok(())
+}
+
+/// Adds a finding after the others.
+pub(crate) fn push<'d>(
+    list: &mut Vec<Finding<'d>>,
+    finding: Finding<'d>,
+) -> Result<(), AllocError> {
+    list.push(finding)?;
+    Ok(())
+}
+
+/// Adds findings after the others.
+pub(crate) fn push_all<'d>(
+    list: &mut Vec<Finding<'d>>,
+    findings: Vec<Finding<'d>>,
+) -> Result<(), AllocError> {
+    for finding in findings {
+        push(list, finding)?;
+    }
+    Ok(())
+}
