@@ -112,7 +112,7 @@ fn push_all_described(
     if numbers.is_empty() {
         return Ok(());
     }
-    let located = asked.locate(alloc, document.text.text.as_str())?;
+    let located = asked.locate(alloc, document.text.format, document.text.text.as_str())?;
     let own = description
         .places
         .iter()

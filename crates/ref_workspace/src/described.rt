@@ -7,8 +7,8 @@ use ref_index::segments_of;
 use ref_parts::path::JsonPointerSegment;
 use ref_parts::{pointer_of, value_at};
 use ref_reach::{
-    Documents, Finding as Reached, Place, Problem as ReachProblem, Reach, Source, documents_of,
-    reach,
+    Documents, Finding as ReachFinding, Place, Problem as ReachProblem, Reached, Source,
+    documents_of, reach,
 };
 use ref_uri::uri::resolve_against;
 use ref_uri::{Uri, UriFault};
@@ -119,9 +119,9 @@ impl<'d> Described<'d> {
         }
         let numbered = numbered_sources(alloc, workspace)?;
         let documents = documents_of(alloc, workspace.draft(), numbered.sources.as_slice())?;
-        let reach = reach(alloc, &documents)?;
+        let reached = reach(alloc, &documents)?;
         let numbers = numbered.numbers.as_slice();
-        described.add(alloc, workspace, numbers, &documents, reach)?;
+        described.add(alloc, workspace, numbers, &documents, reached)?;
         Ok(described)
     }
 
@@ -154,13 +154,13 @@ impl<'d> Described<'d> {
         workspace: &'d Workspace,
         numbers: &[usize],
         documents: &Documents<'_>,
-        reach: Reach<'_>,
+        reached: Reached<'_>,
     ) -> Result<(), AllocError> {
-        let Reach {
+        let Reached {
             places,
             findings,
             references,
-        } = reach;
+        } = reached;
         self.note_parts(numbers, documents.own());
         self.note_parts(numbers, places.as_slice());
         self.places = documents.own().len().saturating_add(places.len());
@@ -228,7 +228,7 @@ impl<'d> Described<'d> {
         workspace: &'d Workspace,
         numbers: &[usize],
         place: &Place<'_>,
-        found: Reached<'_>,
+        found: ReachFinding<'_>,
     ) -> Result<(), AllocError> {
         let Some(number) = numbers.get(place.document).copied() else {
             return Ok(());
@@ -259,15 +259,15 @@ impl Workspace {
         if described.note_descriptions(self) {
             let numbered = numbered_sources(alloc, self)?;
             let documents = documents_of(alloc, self.draft(), numbered.sources.as_slice())?;
-            let reach = reach(alloc, &documents)?;
+            let reached = reach(alloc, &documents)?;
             let numbers = numbered.numbers.as_slice();
             for place in documents.own() {
                 description.add(alloc, self, numbers, place)?;
             }
-            for place in &reach.places {
+            for place in &reached.places {
                 description.add(alloc, self, numbers, place)?;
             }
-            described.note_parts(numbers, reach.places.as_slice());
+            described.note_parts(numbers, reached.places.as_slice());
         }
         description.is_described = described.is_described;
         Ok(description)
@@ -407,9 +407,9 @@ fn located<'d>(
     number: usize,
     root: &'d Value,
     place: &Place<'_>,
-    found: Reached<'_>,
+    found: ReachFinding<'_>,
 ) -> Result<Finding<'d>, AllocError> {
-    let Reached {
+    let ReachFinding {
         under,
         keyword,
         problem,
