@@ -36,23 +36,17 @@ export class Patchsard {
         for (const remote = new Map(); ; ) {
             try {
                 const answer = await this.call("open", { documents, remote: [...remote], parent: parent?.number, ...members });
-                return new Registry(this, answer.registry, await this.#values(answer, documents, remote), parent);
+                return new Registry(this, answer.registry, this.#values(answer, documents, remote), parent);
             } catch (error) {
                 if (!retrieve || !error.uri || remote.has(error.uri)) throw error;
                 remote.set(error.uri, await retrieve(error.uri));
             }
         }
     }
-    // The value of each document of an answer.
-    async #values({ registry, documents: uris }, documents, remote) {
-        const given = uris.filter((uri) => !remote.has(uri)).length;
-        const values = uris.map((uri, number) => (number < given ? documents[number][1] : remote.get(uri)));
-        if (given === documents.length) return values;
-        // The URIs of some documents mean the same, and the last of these counts. A look-up answers a URI in the form in which documents are listed.
-        for (const [uri, value] of documents) {
-            const { base } = await this.call("lookup", { registry, base: uri, scope: [], reference: "" });
-            values[uris.indexOf(base)] = value;
-        }
+    // The value of each document of an answer. Of those whose URIs mean the same the last counts.
+    #values({ documents: uris, given }, documents, remote) {
+        const values = uris.map((uri) => remote.get(uri));
+        given.forEach((number, index) => (values[number] = documents[index][1]));
         return values;
     }
     end() { this.process.stdin.end(); }

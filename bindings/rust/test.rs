@@ -12,7 +12,7 @@ fn started() -> Patchsard {
     let opened = patchsard.ask(OPEN).expect("an answer");
     assert_eq!(
         opened,
-        r#"{"result":{"documents":["https://example.com/order"],"registry":0}}"#
+        r#"{"result":{"documents":["https://example.com/order"],"given":[0],"registry":0}}"#
     );
     patchsard
 }

@@ -2,11 +2,12 @@
 from __future__ import annotations
 
 import json
+import re
 import weakref
 from typing import Any, Callable, Dict, Iterable, Iterator, List, Literal, Mapping, NamedTuple, Optional, Sequence, Set, Tuple, TypeVar, Union, overload
 
 from patchsard import _process
-from patchsard.exceptions import CallRefused, CannotDetermineSpecification, NoInternalID, NoSuchAnchor, NoSuchResource, ProcessEnded, Unresolvable, Unretrievable, from_answer
+from patchsard.exceptions import CallRefused, CannotDetermineSpecification, InvalidUri, NoInternalID, NoSuchAnchor, NoSuchResource, ProcessEnded, Unresolvable, Unretrievable, from_answer
 
 Schema = Any
 Pairs = Iterable[Tuple[str, Any]]
@@ -300,6 +301,55 @@ def _listed(texts: Dict[str, str]) -> str:
     return ",".join(f"[{_encode(uri)},{text}]" for uri, text in texts.items())
 
 
+def _sent(line: str, *documents: Dict[str, str]) -> bytes:
+    """A line as it is sent. Half of a surrogate pair can't be."""
+    try:
+        return line.encode("utf-8")
+    except UnicodeEncodeError:
+        raise _refused(CallRefused("NotJson", "A text has half of a surrogate pair, which is no character"), *documents) from None
+
+
+def _refused(error: CallRefused, *documents: Dict[str, str]) -> CallRefused:
+    """The error of a line that is no JSON, with the document that can't be sent, and why."""
+    if error.name != "NotJson":
+        return error
+    for texts in documents:
+        for uri, text in texts.items():
+            reason = _reason(text)
+            if reason is not None:
+                found = CallRefused(error.name, f"The document {uri!r} {_REASONS[reason]}")
+                found.offset, found.document, found.reason = error.offset, uri, reason
+                return found
+    return error
+
+
+_REASONS = {
+    "depth": "nests more than 124 levels",
+    "number": "has a number beyond the range of a double",
+    "surrogate": "has half of a surrogate pair, which is no character",
+}
+
+
+def _reason(text: str) -> Optional[str]:
+    """Why the program doesn't take a document that Python writes as JSON."""
+    if any("\ud800" <= character <= "\udfff" for character in text):
+        return "surrogate"
+    depth = most = 0
+    numbers = []
+    for token in re.finditer(r'"(?:[^"\\]|\\.)*"|[\[{]|[\]}]|-?\d[\d.eE+-]*', text):
+        found = token.group()
+        if found in "[{":
+            depth += 1
+            most = max(most, depth)
+        elif found in "]}":
+            depth -= 1
+        elif found[0] != '"':
+            numbers.append(found)
+    if most > 124:
+        return "depth"
+    return "number" if any(float(number) in (float("inf"), float("-inf")) for number in numbers) else None
+
+
 def _meta_schemas() -> List[Tuple[str, Schema]]:
     """The meta-schemas of the drafts, where `jsonschema-specifications` is installed."""
     try:
@@ -332,8 +382,8 @@ class Registry(Mapping[str, Resource]):
 
     `parent` is a registry whose documents are seen where this one has none, or meta-schemas, each under its URI, which are made such a registry.
     `draft` is the draft of documents that name none, `limit` says how many documents may be retrieved, and `timeout` how many seconds a call to the program may take, after
-    which it is ended and `CallTimedOut` raised. A document that can't be had is an error as soon as the
-    program gets the others, or with `allow_missing` only where a reference to it is looked up. The meta-schemas of the drafts are there where the package
+    which it is ended and `CallTimedOut` raised. A document that can't be had, and an identifier or a reference that is no URI reference, are errors as soon as the
+    program gets the documents. With `allow_missing` they are only where such a reference is looked up, and such an identifier counts as none. The meta-schemas of the drafts are there where the package
     `jsonschema-specifications` is installed.
     """
 
@@ -566,8 +616,8 @@ class Registry(Mapping[str, Resource]):
         if self._documents:
             try:
                 shared._open()
-            except Unretrievable:
-                # It is opened once with that document missing, for all that are made from it.
+            except (Unretrievable, InvalidUri):
+                # It is opened once as far as it goes, for all that are made from it.
                 shared = self._evolved(self._all(), self._all_retrieved(), None)
                 shared._allow_missing, self._tolerant = True, shared
                 shared._open()
@@ -612,34 +662,64 @@ class Registry(Mapping[str, Resource]):
         texts = {uri: _text(uri, resource) for uri, resource in self._documents.items()}
         retrieved = dict(self._retrieved)
         remote = {uri: _text(uri, resource) for uri, resource in retrieved.items()}
-        members = self._members(parent)
-        head = f'{members},"documents":[{_listed(texts)}],"remote":['
+        head = self._members(parent)
         rounds = 0
         while True:
-            answer = process.ask(f"{head}{_listed(remote)}]}}\n".encode("utf-8"), self._timeout)
+            answer = process.ask(_sent(f'{head},"documents":[{_listed(texts)}],"remote":[{_listed(remote)}]}}\n', texts, remote), self._timeout)
             if "error" not in answer:
                 break
             error = from_answer(answer["error"], answer["error"].get("uri", ""))
+            if isinstance(error, InvalidUri) and self._allow_missing and self._are_mended(process, texts, remote):
+                continue
+            if isinstance(error, CallRefused):
+                raise _refused(error, texts, remote)
             if not isinstance(error, Unretrievable) or error.uri is None or error.uri in remote:
-                raise error
+                raise self._placed(process, error, texts, remote)
+            if self._retrieve is None and not self._allow_missing:
+                raise self._placed(process, error, texts, remote)
             retrieved[error.uri], remote[error.uri] = self._retrieved_or_missing(error)
             rounds += 1
             if rounds == _ROUNDS:
                 self._retrieve_ahead(process, parent, texts, retrieved, remote)
-        uris = answer["result"]["documents"]
-        documents = [resource.contents for resource in self._documents.values()]
-        documents += [retrieved[uri].contents for uri in uris if uri in retrieved]
-        opened = _Opened(process, answer["result"]["registry"], documents, parent, self._timeout)
-        if len(documents) != len(uris):
-            # Some URIs mean the same; the last document under them took the place of the others.
-            numbers = {uri: number for number, uri in enumerate(uris)}
-            opened.documents = [retrieved[uri].contents if uri in retrieved else None for uri in uris]
-            for uri, resource in self._documents.items():
-                # A look-up of a URI alone answers it in the form in which documents are listed.
-                meant = opened.ask(uri, "lookup", f',"base":{_encode(uri)},"reference":""')["base"]
-                opened.documents[numbers[meant]] = resource.contents
+        result = answer["result"]
+        documents = [retrieved[uri].contents if uri in retrieved else None for uri in result["documents"]]
+        # Of those whose URIs mean the same the last takes the place of the others.
+        for number, resource in zip(result["given"], self._documents.values()):
+            documents[number] = resource.contents
+        opened = _Opened(process, result["registry"], documents, parent, self._timeout)
         self._retrieved = {uri: resource for uri, resource in retrieved.items() if resource.contents is not _MISSING}
         return opened
+
+    def _faults(self, process: _process.Process, texts: Dict[str, str], remote: Dict[str, str]) -> Iterator[Tuple[str, Dict[str, Any]]]:
+        """What is wrong with identifiers and references of these documents, each with the URI of its document."""
+        documents = {**remote, **texts}
+        answer = process.ask(f'{{"call":"faults","draft":"{self._draft.name}","documents":[{_listed(documents)}]}}\n'.encode("utf-8"), self._timeout)
+        uris = list(documents)
+        return ((uris[it["document"]], it) for it in answer.get("result", []))
+
+    def _are_mended(self, process: _process.Process, texts: Dict[str, str], remote: Dict[str, str]) -> bool:
+        """Puts `null` in place of the texts that are no URI references, so that the program opens the other references and identifiers; whether there were any."""
+        faulty: Dict[str, List[Dict[str, Any]]] = {}
+        for uri, fault in self._faults(process, texts, remote):
+            if fault["error"]["name"] == "InvalidUri" and fault["keyword"] in ("$id", "id", "$ref", "$schema"):
+                faulty.setdefault(uri, []).append(fault)
+        for uri, faults in faulty.items():
+            among = texts if uri in texts else remote
+            tree = json.loads(among[uri])
+            for fault in faults:
+                _at(tree, fault["pointer"])[fault["keyword"]] = None
+            among[uri] = _encode(tree)
+        return bool(faulty)
+
+    def _placed(self, process: _process.Process, error: Exception, texts: Dict[str, str], remote: Dict[str, str]) -> Exception:
+        """The error of `open`, with the document and the place that have the fault, where that is found."""
+        if isinstance(error, Unresolvable):
+            for uri, fault in self._faults(process, texts, remote):
+                found = from_answer(fault["error"], "")
+                if type(found) is type(error) and (found.message == error.message if isinstance(error, InvalidUri) else getattr(found, "uri", None) == getattr(error, "uri", "")):
+                    error.document, error.pointer = uri, fault["pointer"]
+                    break
+        return error
 
     def _members(self, parent: Optional[_Opened]) -> str:
         """The begin of a call `open`."""
@@ -841,7 +921,13 @@ class Resolver:
         if resource.specification is not None:
             members["$schema"] = draft.uri
         more = f',"draft":"{draft.name}","schema":{_encode(members)}'
-        answer = self._registry._again(lambda opened: self._ask(opened, "enter", more))
+        try:
+            answer = self._registry._again(lambda opened: self._ask(opened, "enter", more))
+        except InvalidUri:
+            if not self._registry._allow_missing:
+                raise
+            # An identifier that is no URI reference counts as none.
+            return self
         return Resolver(self._registry, answer["base"], answer["scope"])
 
     def lookup_recursive_ref(self) -> Resolved:

@@ -11,8 +11,12 @@ class PatchsardError(Exception):
 class Unresolvable(PatchsardError):
     """A reference finds no value.
 
-    `ref` is the reference, or the URI of the document that isn't there; `message` is a sentence for people.
+    `ref` is the reference, or the URI of the document that isn't there; `message` is a sentence for people. Where documents can't be opened, `document` is the URI of the one
+    that is at fault, and `pointer` leads to the schema there, as far as they are known.
     """
+
+    document: Optional[str] = None
+    pointer: Optional[str] = None
 
     def __init__(self, ref: str, message: str = "") -> None:
         super().__init__(ref, message)
@@ -20,9 +24,10 @@ class Unresolvable(PatchsardError):
         self.message = message
 
     def __str__(self) -> str:
+        where = "" if self.document is None else f", in the document {self.document!r}, at {self.pointer!r}"
         if not self.ref:
-            return self.message or repr(self.ref)
-        return f"{self.ref!r}: {self.message}" if self.message else repr(self.ref)
+            return (self.message or repr(self.ref)) + where
+        return (f"{self.ref!r}: {self.message}" if self.message else repr(self.ref)) + where
 
 
 class PointerToNowhere(Unresolvable):
@@ -110,8 +115,12 @@ class ProgramNotFound(PatchsardError, RuntimeError):
 
 class CallRefused(PatchsardError, ValueError):
     """The program takes a call, or a document in it, for malformed. `name` is the name of the error in the protocol; `field` is the member of the call that it is about,
-    `index` the number of the item there, and `offset` the byte of the line, where the program says them.
+    `index` the number of the item there, and `offset` the byte of the line, where the program says them. Where a document can't be sent, `document` is its URI and `reason` says
+    why: `"depth"`, `"number"` or `"surrogate"`.
     """
+
+    document: Optional[str] = None
+    reason: Optional[str] = None
 
     field: Optional[str] = None
     index: Optional[int] = None

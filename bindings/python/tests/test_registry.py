@@ -446,5 +446,50 @@ class Retrieval(unittest.TestCase):
             chain.crawl()
 
 
+class Faults(unittest.TestCase):
+    """Where the fault is of documents that can't be opened."""
+
+    SOUND = {f"https://example.com/{number}": {"$defs": {"a": {"type": "null"}}} for number in range(20)}
+
+    def refused(self, schema, **options):
+        with self.assertRaises(patchsard.PatchsardError) as raised:
+            Registry({**self.SOUND, "https://example.com/faulty": schema}, **options).crawl()
+        self.assertEqual(raised.exception.document, "https://example.com/faulty")
+        return raised.exception
+
+    def test_where(self):
+        for schema, kind, pointer in (
+            ({"properties": {"q": {"$ref": "my file.json"}}}, patchsard.InvalidUri, "/properties/q"),
+            ({"not": {"$id": "a b"}}, patchsard.InvalidUri, "/not"),
+            ({"items": {"$ref": "nowhere"}}, patchsard.Unretrievable, "/items"),
+            ({"$schema": "https://example.com/meta"}, patchsard.UnknownSpecification, ""),
+        ):
+            error = self.refused(schema)
+            self.assertEqual((type(error), error.pointer), (kind, pointer))
+            self.assertIn("https://example.com/faulty", str(error))
+
+    def test_what_can_not_be_sent(self):
+        deep = True
+        for _ in range(125):
+            deep = {"not": deep}
+        for schema, reason in ((deep, "depth"), ({"const": 10**400}, "number"), ({"pattern": "[\ud800-\udbff]"}, "surrogate")):
+            error = self.refused(schema)
+            self.assertEqual((type(error), error.name, error.reason), (patchsard.CallRefused, "NotJson", reason))
+
+    def test_the_document_of_each_number(self):
+        documents = {"http://a/x": {"$defs": {"k": {"$id": "http://a/k"}}}, "http://a/y": {"$defs": {"q": {"$id": "http://a/x"}}}, "http://a/z": {"const": 1}, "HTTP://a/z": {"const": 2}}
+        resolver = Registry(documents).resolver()
+        self.assertIs(resolver.lookup("http://a/k").contents, documents["http://a/x"]["$defs"]["k"])
+        self.assertIs(resolver.lookup("http://a/z").contents, documents["HTTP://a/z"])
+
+    def test_tolerance(self):
+        documents = {"https://example.com/a": {"$id": "a b", "properties": {"p": {"$ref": "c d"}, "q": {"$ref": "#/$defs/e"}}, "$defs": {"e": {"$id": "f g", "const": 1}}}}
+        resolver = Registry(documents, allow_missing=True).resolver("https://example.com/a")
+        self.assertIs(resolver.lookup("#/$defs/e").contents, documents["https://example.com/a"]["$defs"]["e"])
+        with self.assertRaises(patchsard.InvalidUri):
+            resolver.lookup("c d")
+        self.assertEqual(resolver.in_subresource({"$id": "f g"}), resolver)
+
+
 if __name__ == "__main__":
     unittest.main()

@@ -77,6 +77,32 @@ class Validators(unittest.TestCase):
         validator = validator_for(schema, default=jsonschema.Draft202012Validator)
         self.assertEqual([validator.is_valid(it) for it in ("a", 1)], [True, False])
 
+    def test_texts_that_are_no_uri_references(self):
+        """What plain jsonschema decides of schemas as they are found: faults that nothing follows don't matter."""
+        texts = ("My Schema", "https://e/{version}/s", "https://e/my schema.json", "https://m\u00fcller.de/s", "https://e/a|b", "C:\\schemas\\a.json")
+        found = [{"$id": text, "properties": {"a": {"type": "integer"}}} for text in texts]
+        found += [{"$schema": "http://json-schema.org/draft-04/schema#", "id": text, "properties": {"a": {"type": "integer"}}} for text in texts]
+        sound = {"$defs": {"x y": {"type": "integer"}}, "properties": {"a": {"$ref": "#/$defs/x%20y"}}}
+        for text in ("my file.json", "${REF}"):
+            found.append({**sound, "properties": {**sound["properties"], "b": {"$ref": text}}})
+            found.append({**sound, "properties": {**sound["properties"], "b": {"$id": text}}})
+        for schema in found:
+            validator = validator_for(schema)
+            plain = jsonschema.validators.validator_for(schema, default=jsonschema.Draft202012Validator)(schema)
+            for instance in ({"a": 1}, {"a": "x"}, {}):
+                self.assertEqual(validator.is_valid(instance), plain.is_valid(instance), (schema, instance))
+
+    def test_a_reference_that_is_no_uri_reference(self):
+        validator = validator_for({"properties": {"a": {"$ref": "my file.json"}, "b": {"type": "null"}}})
+        self.assertEqual([validator.is_valid(it) for it in ({"b": None}, {"b": 1})], [True, False])
+        with self.assertRaises(referencing.exceptions.Unresolvable):
+            validator.is_valid({"a": 1})
+
+    def test_a_registry_with_a_text_that_is_no_uri_reference(self):
+        registry = Registry({"https://example.com/a": {"$id": "a b", "$defs": {"n": {"type": "null"}}}})
+        validator = validator_for({"$ref": "https://example.com/a#/$defs/n"}, registry=registry)
+        self.assertEqual([validator.is_valid(it) for it in (None, 1)], [True, False])
+
     def test_options(self):
         validator = validator_for({"format": "ipv4"}, format_checker=jsonschema.FormatChecker())
         self.assertEqual([validator.is_valid(it) for it in ("127.0.0.1", "127.0.0")], [True, False])

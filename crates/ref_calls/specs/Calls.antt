@@ -10,7 +10,7 @@ use Rattle.ref_draft.specs.Names.{draft_named}
 use Rattle.ref_definitions.specs.Results.{◌>>=◌}
 use Rattle.ref_definitions.specs.Fault.{as_invalid_uri}
 use Rattle.ref_calls.specs.declared.call.Call.{Call}
-use Rattle.ref_calls.specs.declared.call.Call.TheVariants.{Open, Lookup, Recursive, Enter, Follow, Places, Dangling, Vocabularies, Bundle, Close}
+use Rattle.ref_calls.specs.declared.call.Call.TheVariants.{Hello, Uri, DraftOf, Faults, Open, Lookup, Recursive, Enter, Follow, Places, References, Dangling, Vocabularies, Bundle, Close}
 use Rattle.ref_calls.specs.declared.fault.Wrong.TheVariants.{UnknownField, MissingField, InvalidField}
 use Rattle.ref_calls.specs.Errors.{plain_error, with_field, field_error, as_error, in_field, at_index}
 
@@ -19,19 +19,35 @@ use Rattle.ref_calls.specs.Errors.{plain_error, with_field, field_error, as_erro
 -- the call that a name means
 abbrev pub call_named : List ℕ → Option Call
 call_named s =
-    if bytes_eq s (codes "open") then Some Open
+    if bytes_eq s (codes "hello") then Some Hello
+    else (if bytes_eq s (codes "uri") then Some Uri
+    else (if bytes_eq s (codes "draft") then Some DraftOf
+    else (if bytes_eq s (codes "faults") then Some Faults
+    else (if bytes_eq s (codes "open") then Some Open
     else (if bytes_eq s (codes "lookup") then Some Lookup
     else (if bytes_eq s (codes "recursive") then Some Recursive
     else (if bytes_eq s (codes "enter") then Some Enter
     else (if bytes_eq s (codes "follow") then Some Follow
     else (if bytes_eq s (codes "places") then Some Places
+    else (if bytes_eq s (codes "references") then Some References
     else (if bytes_eq s (codes "dangling") then Some Dangling
     else (if bytes_eq s (codes "vocabularies") then Some Vocabularies
     else (if bytes_eq s (codes "bundle") then Some Bundle
-    else (if bytes_eq s (codes "close") then Some Close else None)))))))))
+    else (if bytes_eq s (codes "close") then Some Close else None))))))))))))))
+
+-- the names of all calls, in this order
+abbrev pub call_names : List (List ℕ)
+call_names =
+    codes "hello" ∷ codes "uri" ∷ codes "draft" ∷ codes "faults" ∷ codes "open" ∷ codes "lookup"
+    ∷ codes "recursive" ∷ codes "enter" ∷ codes "follow" ∷ codes "places" ∷ codes "references"
+    ∷ codes "dangling" ∷ codes "vocabularies" ∷ codes "bundle" ∷ codes "close" ∷ []
 
 -- the members that a call knows besides `call` and `id`
 abbrev pub fields_of : Call → List (List ℕ)
+fields_of Hello = []
+fields_of Uri = codes "base" ∷ codes "reference" ∷ []
+fields_of DraftOf = codes "schema" ∷ codes "draft" ∷ []
+fields_of Faults = codes "documents" ∷ codes "remote" ∷ codes "draft" ∷ []
 fields_of Open =
     codes "documents" ∷ codes "remote" ∷ codes "parent" ∷ codes "draft" ∷ codes "limit" ∷ []
 fields_of Lookup =
@@ -43,6 +59,7 @@ fields_of Follow =
     codes "registry" ∷ codes "base" ∷ codes "scope" ∷ codes "values" ∷ codes "draft" ∷ codes "steps"
     ∷ []
 fields_of Places = codes "registry" ∷ []
+fields_of References = codes "registry" ∷ codes "document" ∷ []
 fields_of Dangling = codes "registry" ∷ []
 fields_of Vocabularies = codes "registry" ∷ codes "schema" ∷ codes "draft" ∷ []
 fields_of Bundle = codes "registry" ∷ codes "document" ∷ []

@@ -12,12 +12,17 @@ use std::alloc::Global;
 /// The calls.
 #[derive(Clone, Copy, PartialEq, Eq, Drop)]
 pub enum Call {
+    Hello,
+    Uri,
+    DraftOf,
+    Faults,
     Open,
     Lookup,
     Recursive,
     Enter,
     Follow,
     Places,
+    References,
     Dangling,
     Vocabularies,
     Bundle,
@@ -28,12 +33,17 @@ fn call_named(name: &str) -> Option<Call>
     ensures { result ≡ spec.call_named name.now }
 {
     match name {
+        "hello" => Some(Call::Hello),
+        "uri" => Some(Call::Uri),
+        "draft" => Some(Call::DraftOf),
+        "faults" => Some(Call::Faults),
         "open" => Some(Call::Open),
         "lookup" => Some(Call::Lookup),
         "recursive" => Some(Call::Recursive),
         "enter" => Some(Call::Enter),
         "follow" => Some(Call::Follow),
         "places" => Some(Call::Places),
+        "references" => Some(Call::References),
         "dangling" => Some(Call::Dangling),
         "vocabularies" => Some(Call::Vocabularies),
         "bundle" => Some(Call::Bundle),
@@ -42,18 +52,48 @@ fn call_named(name: &str) -> Option<Call>
     }
 }
 
+// The names of all calls.
+const NAMES: [&str; 15] = [
+    "hello",
+    "uri",
+    "draft",
+    "faults",
+    "open",
+    "lookup",
+    "recursive",
+    "enter",
+    "follow",
+    "places",
+    "references",
+    "dangling",
+    "vocabularies",
+    "bundle",
+    "close",
+];
+
+/// The names of all calls.
+pub fn call_names() -> &'static [&'static str]
+    ensures value { map (λ name. name.now) result.now ≡ spec.call_names }
+{
+    &NAMES
+}
+
 // The members that a call knows besides `call` and `id`.
 fn fields_of(call: Call) -> &'static [&'static str]
     ensures { map (λ field. field.now) result.now ≡ spec.fields_of call }
 {
     match call {
+        Call::Hello => &[],
+        Call::Uri => &["base", "reference"],
+        Call::DraftOf => &["schema", "draft"],
+        Call::Faults => &["documents", "remote", "draft"],
         Call::Open => &["documents", "remote", "parent", "draft", "limit"],
         Call::Lookup => &["registry", "base", "scope", "reference", "values"],
         Call::Recursive => &["registry", "base", "scope", "values"],
         Call::Enter => &["registry", "base", "scope", "schema", "draft"],
         Call::Follow => &["registry", "base", "scope", "values", "draft", "steps"],
         Call::Vocabularies => &["registry", "schema", "draft"],
-        Call::Bundle => &["registry", "document"],
+        Call::Bundle | Call::References => &["registry", "document"],
         Call::Places | Call::Dangling | Call::Close => &["registry"],
     }
 }

@@ -2,14 +2,14 @@
 //! computes them.
 #![tactic(auto, unfolding(crate::proofs::OnLiterals::ref_calls_on_literals))]
 
-ghost use Rattle.std.specs.Prelude.{◌≡◌, [], ◌∷◌, true, false, codes, Some, None, Ok};
+ghost use Rattle.std.specs.Prelude.{◌≡◌, [], ◌∷◌, map, true, false, codes, Some, None, Ok};
 ghost use Rattle.serde_json.specs.Find.{get};
 ghost use Rattle.ref_draft.specs.declared.draft.Draft.TheVariants.{Draft4, Draft7, Draft202012};
 ghost use Rattle.ref_definitions.specs.Fault.{PointerToNowhere, InvalidPercentEncoding, InvalidArrayIndex, NoSuchAnchor, InvalidAnchor, UnknownSpecification, RetrievalLimit};
 ghost use Rattle.ref_definitions.specs.Rows.{yes, text, whole_number, empty, one, two, list, pair};
-ghost use Rattle.ref_calls.specs.declared.call.Call.TheVariants.{Open, Lookup, Close};
+ghost use Rattle.ref_calls.specs.declared.call.Call.TheVariants.{Hello, Uri, DraftOf, Faults, Open, Lookup, Recursive, Enter, Follow, Places, References, Dangling, Vocabularies, Bundle, Close};
 ghost use Rattle.ref_calls.specs.declared.fault.Wrong.TheVariants.{UnknownField, MissingField, InvalidField, UnknownRegistry};
-ghost use Rattle.ref_calls.specs.Calls.{call_of, call_named, is_known, required_member, text_in, number_in, is_set, draft_of, schema_of, base_of, scope_of, document_of, documents_of, documents_at, needed_documents, under_uris};
+ghost use Rattle.ref_calls.specs.Calls.{call_of, call_named, call_names, is_known, required_member, text_in, number_in, is_set, draft_of, schema_of, base_of, scope_of, document_of, documents_of, documents_at, needed_documents, under_uris};
 ghost use Rattle.ref_calls.specs.Errors.{not_json, field_error, with_field, with_index, fault_error, fault_name, wanted_document};
 ghost use Rattle.ref_calls.specs.Objects.{answer_of, object_of, texts, whole};
 ghost use Rattle.ref_calls.specs.Rows.{call, call_with, told};
@@ -36,6 +36,13 @@ pub fn calls()
     ensures call_comes_first { told "name" (call_of (call_with "opne" "x" empty))
         ≡ Some (text "UnknownCall") }
     ensures no_name { call_named (codes "refer") ≡ None }
+    ensures each_is_named { map call_named call_names
+        ≡ Some Hello ∷ Some Uri ∷ Some DraftOf ∷ Some Faults ∷ Some Open ∷ Some Lookup
+        ∷ Some Recursive ∷ Some Enter ∷ Some Follow ∷ Some Places ∷ Some References
+        ∷ Some Dangling ∷ Some Vocabularies ∷ Some Bundle ∷ Some Close ∷ [] }
+    ensures without_members { call_of (call "hello") ≡ Ok Hello }
+    ensures no_registry_is_asked { told "field" (call_of (call_with "uri" "registry" (whole_number 0)))
+        ≡ Some (text "registry") }
     ensures limit { is_known Open (codes "limit") ≡ true }
     ensures no_limit { is_known Lookup (codes "limit") ≡ false }
 {}

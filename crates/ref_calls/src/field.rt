@@ -1,5 +1,5 @@
 //! The members of calls.
-ghost use Rattle.std.specs.Prelude.{◌≡◌, IfOk};
+ghost use Rattle.std.specs.Prelude.{◌≡◌, Some, IfOk};
 ghost use Rattle.serde_json.specs.View.{view, items_view};
 ghost use Rattle.ref_uri.specs.Targets.{uri_of};
 ghost use Rattle.ref_definitions.specs.Fault.{as_invalid_uri};
@@ -175,15 +175,22 @@ fn list_of(alloc: Global, uris: Vec<Uri>) -> Result<List<Uri>, AllocError>
     Ok(list)
 }
 
+/// The dynamic scope that a value is.
+pub fn scope_in(alloc: Global, value: &Value) -> Result<List<Uri>, Stop<Value>>
+    ensures { Answers (λ list. list) result (spec.scope_at (Some (view value.now))) }
+{
+    let items = items_in(alloc, value, "scope")?;
+    let uris = uris_in(alloc, items)?;
+    Ok(list_of(alloc, uris)?)
+}
+
 /// The dynamic scope under `scope`, or else the empty one.
 #[tactic(auto, unfolding(crate::specs::Calls::scope_of))]
 pub fn scope_of(alloc: Global, tree: &Value) -> Result<List<Uri>, Stop<Value>>
     ensures { Answers (λ list. list) result (spec.scope_of (view tree.now)) }
 {
-    let Some(value) = tree.get("scope") else {
-        return Ok(List::new());
-    };
-    let items = items_in(alloc, value, "scope")?;
-    let uris = uris_in(alloc, items)?;
-    Ok(list_of(alloc, uris)?)
+    match tree.get("scope") {
+        Some(value) => scope_in(alloc, value),
+        None => Ok(List::new()),
+    }
 }

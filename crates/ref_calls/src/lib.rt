@@ -12,6 +12,6 @@ pub mod fault;
 pub mod field;
 pub mod members;
 
-pub use call::{Call, call_of};
+pub use call::{Call, call_names, call_of};
 pub use fault::Wrong;
 pub use members::Members;

@@ -2,7 +2,9 @@ pub mod Closing
 pub mod Giving
 pub mod ListOfReferences
 pub mod DanglingList
+pub mod FaultyList
 pub mod KnownVocabularies
+pub mod Referring
 pub mod Replying
 pub mod Steps
 pub mod OpeningReads

@@ -5,7 +5,7 @@ use Rattle.serde_json.specs.Find.{get}
 use Rattle.serde_json.specs.View.{view}
 use Rattle.serde_json.specs.declared.value.Value.{Value}
 use Rattle.ref_calls.specs.declared.call.Call.{Call}
-use Rattle.ref_calls.specs.declared.call.Call.TheVariants.{Open, Lookup, Recursive, Enter, Follow, Places, Dangling, Vocabularies, Bundle, Close}
+use Rattle.ref_calls.specs.declared.call.Call.TheVariants.{Hello, Uri, DraftOf, Faults, Open, Lookup, Recursive, Enter, Follow, Places, References, Dangling, Vocabularies, Bundle, Close}
 use Rattle.ref_json.specs.declared.stop.Stop.{Stop}
 use Rattle.ref_json.specs.declared.stop.Stop.TheVariants.{Memory, Because}
 use Rattle.ref_serve.specs.declared.answer.Reply.{Reply}
@@ -19,11 +19,16 @@ use Rattle.ref_serve.specs.inner.Replies.{Replies, IsUnchanged, registries_after
 
 as_reply : (call : Call) (state next : Registries) (d : Data) (outcome : Result Data Data) → (call ≡ Open → ⊥) → (call ≡ Close → ⊥) → IsUnchanged call state d next outcome → IsReply call state d next outcome
 as_reply Open state next d outcome other another given = absurd (other refl)
+as_reply Hello state next d outcome other another given = given
+as_reply Uri state next d outcome other another given = given
+as_reply DraftOf state next d outcome other another given = given
+as_reply Faults state next d outcome other another given = given
 as_reply Lookup state next d outcome other another given = given
 as_reply Recursive state next d outcome other another given = given
 as_reply Enter state next d outcome other another given = given
 as_reply Follow state next d outcome other another given = given
 as_reply Places state next d outcome other another given = given
+as_reply References state next d outcome other another given = given
 as_reply Dangling state next d outcome other another given = given
 as_reply Vocabularies state next d outcome other another given = given
 as_reply Bundle state next d outcome other another given = given

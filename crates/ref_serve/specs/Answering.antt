@@ -3,7 +3,7 @@ use Rattle.std.specs.Prelude.{◌≡◌, ◌≤◌, length, ℕ, List, [], codes
 use Rattle.serde_json.specs.Data.{Data}
 use Rattle.serde_json.specs.Find.{get}
 use Rattle.ref_calls.specs.declared.call.Call.{Call}
-use Rattle.ref_calls.specs.declared.call.Call.TheVariants.{Open, Lookup, Recursive, Enter, Follow, Places, Dangling, Vocabularies, Bundle, Close}
+use Rattle.ref_calls.specs.declared.call.Call.TheVariants.{Hello, Uri, DraftOf, Faults, Open, Lookup, Recursive, Enter, Follow, Places, References, Dangling, Vocabularies, Bundle, Close}
 use Rattle.ref_calls.specs.Objects.{object_of, answer_of, IsLineOf}
 use Rattle.ref_calls.specs.Errors.{not_json}
 use Rattle.ref_json.specs.Text.{tree_of}
@@ -12,15 +12,23 @@ use Rattle.ref_serve.specs.State.{OpenRegistry, Registries, registry_under, with
 use Rattle.ref_serve.specs.Opening.{opening_of, IsOpenedAs}
 use Rattle.ref_serve.specs.Results.{IsLookup, IsRecursiveCall, enter_result}
 use Rattle.ref_serve.specs.Following.{IsFollow}
+use Rattle.ref_serve.specs.About.{hello_result, uri_result, draft_result}
+use Rattle.ref_serve.specs.Faults.{faults_result}
+use Rattle.ref_serve.specs.References.{IsReferences}
 use Rattle.ref_serve.specs.Listings.{places_result, dangling_result, vocabularies_result, bundle_result}
 
 -- the result of a call that changes no registry, or its error; of `open` and `close` see `IsReply`
 abbrev pub IsResult : Call → Registries → Data → Result Data Data → Type 0
+IsResult Hello state d outcome = outcome ≡ Ok hello_result
+IsResult Uri state d outcome = outcome ≡ uri_result d
+IsResult DraftOf state d outcome = outcome ≡ draft_result d
+IsResult Faults state d outcome = outcome ≡ faults_result d
 IsResult Lookup state d outcome = IsLookup state d outcome
 IsResult Recursive state d outcome = IsRecursiveCall state d outcome
 IsResult Enter state d outcome = outcome ≡ enter_result state d
 IsResult Follow state d outcome = IsFollow state d outcome
 IsResult Places state d outcome = outcome ≡ places_result state d
+IsResult References state d outcome = IsReferences state d outcome
 IsResult Dangling state d outcome = outcome ≡ dangling_result state d
 IsResult Vocabularies state d outcome = outcome ≡ vocabularies_result state d
 IsResult Bundle state d outcome = outcome ≡ bundle_result state d

@@ -3,7 +3,10 @@ pub mod State
 pub mod Rows
 pub mod Results
 pub mod Opening
+pub mod About
+pub mod References
 pub mod Listings
+pub mod Faults
 pub mod Following
 pub mod Answering
 pub mod inner

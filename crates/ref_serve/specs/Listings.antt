@@ -1,5 +1,5 @@
 -- The results of calls on the documents of a registry as wholes.
-use Rattle.std.specs.Prelude.{ℕ, List, [], ◌∷◌, ◌++◌, map, filter, codes, Result, Ok, Err}
+use Rattle.std.specs.Prelude.{ℕ, List, [], ◌∷◌, ◌++◌, map, filter, codes, Option, None, Some, Result, Ok, Err}
 use Rattle.serde_json.specs.Data.{Data, string}
 use Rattle.ref_paths.specs.Path.{Part}
 use Rattle.ref_parts.specs.Pointer.{pointer_text}
@@ -13,6 +13,8 @@ use Rattle.ref_bundle.specs.Embedding.{Obstacle, NotAnObject, IdentifierBesideRe
 use Rattle.ref_bundle.specs.Bundle.{Bundle, BundleRefusal, Problem, NoDocument, NotEmbedded, NoMap, KeyTaken, SharedUri, ReplacedUri, ShadowedUri, AddedMember, bundle_at}
 use Rattle.ref_bundle.specs.Saying.{refusal_text}
 use Rattle.ref_draft.specs.Names.{draft_name}
+use Rattle.ref_draft.specs.Schema.{identifier}
+use Rattle.ref_draft.specs.Anchors.{Kind, Plain, Dynamic, anchors}
 use Rattle.ref_calls.specs.Objects.{object_of, list_of, texts, whole}
 use Rattle.ref_calls.specs.Errors.{error_members, fault_members}
 use Rattle.ref_calls.specs.Calls.{required_member, number_in, draft_of, schema_of}
@@ -35,12 +37,24 @@ abbrev pub base_text : Result (List ℕ) Refusal → List ℕ
 base_text (Ok base) = base
 base_text (Err refusal) = []
 
+-- the member of its identifier, where it has one
+abbrev pub identifier_member : Option (List ℕ) → List (List ℕ × Data)
+identifier_member None = []
+identifier_member (Some id) = (codes "identifier", string id) ∷ []
+
+-- the member of an anchor
+abbrev pub anchor_member : List ℕ × Kind → List ℕ × Data
+anchor_member (name, Plain) = (codes "anchor", string name)
+anchor_member (name, Dynamic) = (codes "dynamicAnchor", string name)
+
 -- the object of a place
 abbrev pub place_object : Listed → Data
 place_object p =
     object_of
     (site_members p.document p.path ++ (codes "base", string (base_text p.base))
-    ∷ (codes "draft", string (draft_name p.draft)) ∷ [])
+    ∷ (codes "draft", string (draft_name p.draft))
+    ∷ identifier_member (identifier p.draft p.value)
+    ++ map anchor_member (anchors p.draft p.value))
 
 -- those of a registry's own documents, in order
 unfoldable pub places_list : World → Data

@@ -1,9 +1,14 @@
 -- What `open` gives.
-use Rattle.std.specs.Prelude.{◌≡◌, ℕ, List, [], ◌∷◌, ◌++◌, map, length, codes, Option, None, Some, is_some, unwrap_or, Result, Ok, Err, if◌then◌else◌}
-use Rattle.serde_json.specs.Data.{Data}
+use Rattle.std.specs.Prelude.{◌≡◌, ℕ, suc, List, [], ◌∷◌, ◌++◌, map, length, codes, Option, None, Some, is_some, option_and_then, unwrap_or, Result, Ok, Err, if◌then◌else◌}
+use Rattle.std.specs.Option.{option_map_or}
+use Rattle.std.specs.Result.{result_ok}
+use Rattle.serde_json.specs.Data.{Data, null}
 use Rattle.serde_json.specs.Find.{get, as_array}
 use Rattle.ref_draft.specs.declared.draft.Draft.{Draft}
-use Rattle.ref_definitions.specs.World.{World, local_documents}
+use Rattle.ref_draft.specs.Schema.{trimmed_text}
+use Rattle.ref_parts.specs.Table.{Entry, last_value}
+use Rattle.ref_uri.specs.Targets.{uri_of}
+use Rattle.ref_definitions.specs.World.{Layer, World, local_documents}
 use Rattle.ref_definitions.specs.Results.{◌>>=◌}
 use Rattle.ref_definitions.specs.Fault.{Fault}
 use Rattle.ref_definitions.specs.Preparing.{Given}
@@ -11,7 +16,7 @@ use Rattle.ref_definitions.specs.Pending.{Pending, given_of_builder}
 use Rattle.ref_definitions.specs.Retrievers.{map_retriever}
 use Rattle.referencing.specs.MetaSchemas.{given_of_meta_schemas}
 use Rattle.ref_registries.specs.Worlds.{pending_of, IsWorld}
-use Rattle.ref_calls.specs.Objects.{object_of, texts, whole}
+use Rattle.ref_calls.specs.Objects.{object_of, list_of, texts, whole}
 use Rattle.ref_calls.specs.Errors.{fault_error, with_field}
 use Rattle.ref_calls.specs.Calls.{number_in, draft_of, documents_of, documents_at, needed_documents, under_uris}
 use Rattle.ref_serve.specs.State.{OpenRegistry, Registries, registry_in}
@@ -89,11 +94,27 @@ IsMetaWorld documents world = IsWorld given_of_meta_schemas (pending_of document
 
 -- ---- what is answered
 
--- the members of a result: the registry's number, and the URIs of its own documents
-abbrev pub opened_members : ℕ → World → List (List ℕ × Data)
-opened_members number world =
+-- documents under their URIs, with their numbers, which are counted from this one on
+abbrev pub numbered_from : ℕ → Layer → List (Entry ℕ)
+numbered_from number [] = []
+numbered_from number (d ∷ ds) = (d.uri, [], number) ∷ numbered_from (suc number) ds
+
+-- the URI that a document is under which is given under a text: `#` characters at its end are dropped
+abbrev pub uri_given : List ℕ → Option (List ℕ)
+uri_given text = result_ok (uri_of (trimmed_text text))
+
+-- the number of the document that is under a URI
+abbrev pub number_given : World → Option (List ℕ) → Data
+number_given world uri =
+    option_map_or (λ n. whole n)
+    (option_and_then (λ u. last_value u [] (numbered_from 0 (local_documents world))) uri) null
+
+-- the members of a result: the registry's number, the URIs of its own documents, and for each that was given its number
+abbrev pub opened_members : ℕ → World → List (List ℕ) → List (List ℕ × Data)
+opened_members number world given =
     (codes "registry", whole number)
-    ∷ (codes "documents", texts (map (λ d. d.uri) (local_documents world))) ∷ []
+    ∷ (codes "documents", texts (map (λ d. d.uri) (local_documents world)))
+    ∷ (codes "given", list_of (map (number_given world) (map uri_given given))) ∷ []
 
 -- What a registry is opened above: layers with the numbers of their registries; the registries that are open before it gets the
 -- next number; and the members of the result that describe one that is opened with it.
@@ -115,20 +136,23 @@ below_meta state world = record {
 }
 
 -- the registry of a world is opened; or there is the error of a fault, and nothing changes
-abbrev pub IsOpenedIn : Below → Registries → Registries → Result World Fault → Result Data Data
-    → Type 0
-IsOpenedIn below state next (Ok world) outcome =
+abbrev pub IsOpenedIn : Opening → Below → Registries → Registries → Result World Fault
+    → Result Data Data → Type 0
+IsOpenedIn o below state next (Ok world) outcome =
     (outcome
-    ≡ Ok (object_of (opened_members (length below.registries) world ++ below.members)))
+    ≡ Ok
+    (object_of
+    (opened_members (length below.registries) world (map (λ d. d.0) o.documents)
+    ++ below.members)))
     × (next ≡ below.registries ++ Some (world, below.layers.1) ∷ [])
-IsOpenedIn below state next (Err fault) outcome =
+IsOpenedIn o below state next (Err fault) outcome =
     (outcome ≡ Err (fault_error fault)) × (next ≡ state)
 
 -- the same of an outcome of preparing
 abbrev pub IsOpenedAbove : Opening → Below → Registries → Registries → Result Data Data → Type 0
 IsOpenedAbove o below state next outcome =
     (world : Result World Fault) × IsOpeningWorld o below.layers.0 world
-    × IsOpenedIn below state next world outcome
+    × IsOpenedIn o below state next world outcome
 
 -- above the registry of meta-schemas; or there is the error of their fault, and nothing changes
 abbrev pub IsOpenedAboveMeta : Opening → Registries → Registries → Result World Fault

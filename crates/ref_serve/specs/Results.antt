@@ -1,6 +1,6 @@
 -- The results of calls that change no registry.
-use Rattle.std.specs.Prelude.{◌≡◌, ℕ, Bool, List, [], ◌∷◌, ◌++◌, map, codes, Option, None, Some, Result, Ok, Err, if◌then◌else◌}
-use Rattle.serde_json.specs.Data.{Data, string, Items}
+use Rattle.std.specs.Prelude.{◌≡◌, ℕ, Bool, List, [], ◌∷◌, ◌++◌, map, codes, Option, None, Some, ok_or, Result, Ok, Err, if◌then◌else◌}
+use Rattle.serde_json.specs.Data.{Data, string, Items, no_items, item}
 use Rattle.serde_json.specs.Find.{as_str, as_array}
 use Rattle.ref_parts.specs.Pointer.{pointer_text}
 use Rattle.ref_paths.specs.Segment.{part_of}
@@ -18,7 +18,7 @@ use Rattle.ref_draft.specs.Names.{draft_name}
 use Rattle.ref_calls.specs.declared.fault.Wrong.TheVariants.{InvalidField}
 use Rattle.ref_calls.specs.Objects.{object_of, list_of, texts, whole}
 use Rattle.ref_calls.specs.Errors.{field_error, fault_error, as_error, at_index}
-use Rattle.ref_calls.specs.Calls.{required_member, text_in, each_item, is_set, base_of, scope_of, draft_of, schema_of}
+use Rattle.ref_calls.specs.Calls.{required_member, text_in, each_item, is_set, uri_at, scope_at, base_of, scope_of, draft_of, schema_of}
 use Rattle.ref_serve.specs.State.{OpenRegistry, Registries, registry_under, layer_number}
 
 -- what may be given once something is read, or the error of what can't be read
@@ -101,34 +101,60 @@ abbrev pub listed_outcome : Result Data Data → Data
 listed_outcome (Ok d) = d
 listed_outcome (Err e) = object_of ((codes "error", e) ∷ [])
 
--- one of a list of references: what it means, or an object with its error
-abbrev pub IsListed : Asked → Resolver → List ℕ → Data → Type 0
-IsListed asked r reference d =
-    (outcome : Result Data Data) × IsLookedUp asked r reference outcome
-    × (d ≡ listed_outcome outcome)
+-- what an item of a list asks: a reference, and where it is looked up from
+abbrev pub Question : Type 0
+Question = Resolver × List ℕ
 
--- the text that an item is
-abbrev pub reference_in : ℕ → Data → Result (List ℕ) Data
-reference_in n d = at_index n (text_in (codes "reference") d)
+-- one of a list: what it means, or an object with its error
+abbrev pub IsListed : Asked → Question → Data → Type 0
+IsListed asked q d =
+    (outcome : Result Data Data) × IsLookedUp asked q.0 q.1 outcome × (d ≡ listed_outcome outcome)
+
+-- the three items of a list
+abbrev pub three_of : Items → Option (Data × Data × Data)
+three_of (item a (item b (item c no_items))) = Some (a, b, c)
+three_of other = None
+
+-- a base, a scope and a text
+abbrev pub question_of : Data × Data × Data → Result Question Data
+question_of (base, scope, text) = do
+  uri ← uri_at (codes "base") base
+  uris ← scope_at (Some scope)
+  reference ← text_in (codes "reference") text
+  Ok (record { base = uri; scope = uris }, reference)
+
+-- what the items of a list ask
+abbrev pub three_asked : Items → Result Question Data
+three_asked items =
+    ok_or (three_of items) (field_error InvalidField (codes "reference")) >>= question_of
+
+-- a text is looked up from the call's base and scope, and a list of three from its own
+abbrev pub question_as : Resolver → Option (List ℕ) → Option Items → Result Question Data
+question_as r (Some text) items = Ok (r, text)
+question_as r None (Some items) = three_asked items
+question_as r None None = Err (field_error InvalidField (codes "reference"))
+
+-- what an item asks
+abbrev pub question_in : Resolver → ℕ → Data → Result Question Data
+question_in r n d = at_index n (question_as r (as_str d) (as_array d))
 
 -- each of them, in order
-abbrev pub AreListed : Asked → Resolver → List (List ℕ) → List Data → Type 0
-AreListed asked r [] [] = Unit {0}
-AreListed asked r [] (d ∷ ds) = ⊥
-AreListed asked r (reference ∷ more) [] = ⊥
-AreListed asked r (reference ∷ more) (d ∷ ds) =
-    IsListed asked r reference d × AreListed asked r more ds
+abbrev pub AreListed : Asked → List Question → List Data → Type 0
+AreListed asked [] [] = Unit {0}
+AreListed asked [] (d ∷ ds) = ⊥
+AreListed asked (q ∷ more) [] = ⊥
+AreListed asked (q ∷ more) (d ∷ ds) = IsListed asked q d × AreListed asked more ds
 
-abbrev pub IsList : Asked → Resolver → List (List ℕ) → Result Data Data → Type 0
-IsList asked r references outcome =
-    (ds : List Data) × AreListed asked r references ds × (outcome ≡ Ok (list_of ds))
+abbrev pub IsList : Asked → List Question → Result Data Data → Type 0
+IsList asked questions outcome =
+    (ds : List Data) × AreListed asked questions ds × (outcome ≡ Ok (list_of ds))
 
--- a text is looked up, and each of a list of texts
+-- a text is looked up, and each item of a list
 abbrev pub IsReferenceAs : Asked → Resolver → Option (List ℕ) → Option Items → Result Data Data
     → Type 0
 IsReferenceAs asked r (Some reference) items outcome = IsLookedUp asked r reference outcome
 IsReferenceAs asked r None (Some items) outcome =
-    Then (each_item reference_in 0 items) (IsList asked r) outcome
+    Then (each_item (question_in r) 0 items) (IsList asked) outcome
 IsReferenceAs asked r None None outcome =
     outcome ≡ Err (field_error InvalidField (codes "reference"))
 

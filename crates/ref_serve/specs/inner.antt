@@ -4,3 +4,5 @@ pub mod Replies
 pub mod Openings
 pub mod Steps
 pub mod Giving
+pub mod Referred
+pub mod Faulty

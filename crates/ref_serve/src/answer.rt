@@ -4,16 +4,20 @@ ghost use Rattle.serde_json.specs.View.{view};
 ghost use Rattle.ref_calls.specs.Objects.{answer_of, IsLineOf};
 ghost use Rattle.ref_calls.specs.Errors.{not_json as error_of};
 ghost use Rattle.ref_calls.specs.Calls.{call_of};
+ghost use Rattle.ref_calls.specs.declared.call.Call.TheVariants.{Faults};
 ghost use Rattle.ref_serve.specs.Answering as spec;
 ghost use Rattle.ref_serve.specs.inner.Giving.{Gives};
 ghost use Rattle.ref_serve.specs.inner.Replies.{registries_after, Replies, IsUnchanged};
 
+use crate::about::{draft, hello, uri};
 use crate::bundling::bundle_document;
 use crate::entering::enter;
+use crate::faults::faults;
 use crate::following::follow;
 use crate::listing::{dangling_references, places};
 use crate::looking::{lookup, recursive};
 use crate::opening::open;
+use crate::references::references;
 use crate::registry::registry_of;
 use crate::state::{Open, State};
 use crate::vocabularies::vocabularies;
@@ -130,7 +134,22 @@ fn reply_to(alloc: Global, state: &mut State, tree: Value) -> Result<Reply, Stop
                 closed: Some(number),
             })
         }
+        Call::Faults => faulty(alloc, state, tree),
         call => unchanged(alloc, state, call, &tree),
+    }
+}
+
+// The reply to `faults`, which changes no registry and takes the documents out of the call.
+fn faulty(alloc: Global, state: &State, tree: Value) -> Result<Reply, Stop<Value>>
+    ensures { Replies (IsUnchanged Faults state.now (view tree)) state.now result }
+{
+    match faults(alloc, tree) {
+        Ok(result) => Ok(Reply {
+            result,
+            opened: Vec::new(alloc),
+            closed: None,
+        }),
+        Err(stop) => Err(stop),
     }
 }
 
@@ -153,14 +172,18 @@ fn result_of(alloc: Global, state: &State, call: Call, tree: &Value) -> Result<V
     ensures { Gives (spec.IsResult call state.now (view tree.now)) result }
 {
     match call {
+        Call::Hello => Ok(hello(alloc)?),
+        Call::Uri => uri(alloc, tree),
+        Call::DraftOf => draft(alloc, tree),
         Call::Lookup => lookup(alloc, state, tree),
         Call::Recursive => recursive(alloc, state, tree),
         Call::Enter => enter(alloc, state, tree),
         Call::Follow => follow(alloc, state, tree),
         Call::Places => places(alloc, state, tree),
+        Call::References => references(alloc, state, tree),
         Call::Dangling => dangling_references(alloc, state, tree),
         Call::Vocabularies => vocabularies(alloc, state, tree),
         Call::Bundle => bundle_document(alloc, state, tree),
-        Call::Open | Call::Close => Err(plain_error(alloc, "UnknownCall", "")),
+        Call::Faults | Call::Open | Call::Close => Err(plain_error(alloc, "UnknownCall", "")),
     }
 }

@@ -3,13 +3,23 @@
 #![tactic(auto, unfolding(crate::proofs::OnLiterals::ref_serve_on_literals))]
 
 ghost use Rattle.std.specs.Prelude.{◌≡◌, [], ◌∷◌, codes, Some, None, Ok, Err, option_and_then};
+ghost use Rattle.serde_json.specs.Data.{null, array, no_items};
+ghost use Rattle.ref_draft.specs.Anchors.{Plain, Dynamic};
+ghost use Rattle.ref_draft.specs.declared.draft.Draft.TheVariants.{Draft202012};
+ghost use Rattle.ref_definitions.specs.Fault.{NoSuchAnchor, UnknownSpecification, not_retrieved};
+ghost use Rattle.ref_findings.specs.Findings.{MissingDocument, LeadsNowhere, UnknownDialect, ListOfItems};
 ghost use Rattle.std.specs.Result.{result_ok};
 ghost use Rattle.serde_json.specs.Find.{get};
-ghost use Rattle.ref_definitions.specs.Rows.{text, whole_number, empty, one, two, three};
+ghost use Rattle.ref_definitions.specs.Rows.{text, whole_number, empty, one, two, three, list, pair, at};
 ghost use Rattle.ref_calls.specs.Rows.{told};
 ghost use Rattle.ref_serve.specs.State.{open_at, without_registry, layer_number, registry_under};
-ghost use Rattle.ref_serve.specs.Results.{enter_result, listed_outcome};
-ghost use Rattle.ref_serve.specs.Rows.{registry, opened};
+ghost use Rattle.ref_serve.specs.Results.{enter_result, listed_outcome, question_in};
+ghost use Rattle.ref_serve.specs.About.{hello_result, uri_result, draft_result};
+ghost use Rattle.ref_serve.specs.Opening.{uri_given, number_given};
+ghost use Rattle.ref_serve.specs.Listings.{identifier_member, anchor_member};
+ghost use Rattle.ref_serve.specs.References.{references_of};
+ghost use Rattle.ref_serve.specs.Faults.{problem_fault};
+ghost use Rattle.ref_serve.specs.Rows.{registry, opened, triple, from_base};
 
 /// The registries that are open, by their numbers.
 pub fn registries()
@@ -61,8 +71,95 @@ pub fn entered()
         ≡ Some (text "schema") }
 {}
 
-/// An item of the answer to a list.
+/// An item of a list of references, and of the answer to it.
 pub fn items()
     ensures error { listed_outcome (Err empty) ≡ one "error" empty }
     ensures result { listed_outcome (Ok empty) ≡ empty }
+    ensures text { question_in (from_base "http://a/b") 0 (text "#c")
+        ≡ Ok (from_base "http://a/b", codes "#c") }
+    ensures three { question_in (from_base "http://a/b") 0
+        (triple (text "http://d/") (array no_items) (text "#c"))
+        ≡ Ok (from_base "http://d/", codes "#c") }
+    ensures scope { question_in (from_base "http://a/b") 0
+        (triple (text "http://d/") (list (text "http://e/")) (text "#c"))
+        ≡ Ok (record { base = codes "http://d/"; scope = codes "http://e/" ∷ [] }, codes "#c") }
+    ensures two_alone { told "field"
+        (question_in (from_base "http://a/b") 0 (pair (text "http://d/") (text "#c")))
+        ≡ Some (text "reference") }
+    ensures index { told "index" (question_in (from_base "http://a/b") 4 empty)
+        ≡ Some (whole_number 4) }
+    ensures no_base { told "field"
+        (question_in (from_base "http://a/b") 0
+        (triple (text "d e") (array no_items) (text "#c")))
+        ≡ Some (text "base") }
+{}
+
+/// Calls that ask no registry.
+pub fn about()
+    ensures program { get (codes "program") hello_result ≡ Some (text "patchsard") }
+    ensures protocol { get (codes "protocol") hello_result ≡ Some (whole_number 1) }
+    ensures against_a_base { uri_result
+        (two "base" (text "http://a/b/c") "reference" (text "../d%7E#x"))
+        ≡ Ok (one "uri" (text "http://a/d~#x")) }
+    ensures alone { uri_result (one "reference" (text "a"))
+        ≡ Ok (one "uri" (text "json-schema:///a")) }
+    ensures no_uri { told "name" (uri_result (one "reference" (text "a b")))
+        ≡ Some (text "InvalidUri") }
+    ensures field_of_no_uri { told "field" (uri_result (one "reference" (text "a b")))
+        ≡ Some (text "reference") }
+    ensures field_of_no_base { told "field"
+        (uri_result (two "base" (text "a b") "reference" (text "c"))) ≡ Some (text "base") }
+    ensures of_its_schema { draft_result
+        (one "schema" (one "$schema" (text "http://json-schema.org/draft-07/schema#")))
+        ≡ Ok (one "draft" (text "7")) }
+    ensures of_the_call { draft_result (two "draft" (text "4") "schema" empty)
+        ≡ Ok (one "draft" (text "4")) }
+    ensures unknown { draft_result (one "schema" (one "$schema" (text "http://a/m")))
+        ≡ Ok (one "draft" (text "unknown")) }
+{}
+
+/// The documents that `open` is given, and the places and references in them.
+pub fn documents()
+    ensures its_number { number_given (registry "http://a/r" empty).0
+        (uri_given (codes "HTTP://a/r#")) ≡ whole_number 0 }
+    ensures no_number { number_given (registry "http://a/r" empty).0 (uri_given (codes "http://a/s"))
+        ≡ null }
+    ensures no_uri { uri_given (codes "a b") ≡ None }
+    ensures last_number { number_given
+        ((at Draft202012 "http://a/r" empty ∷ at Draft202012 "http://a/s" empty ∷ []) ∷ [])
+        (uri_given (codes "http://a/s")) ≡ whole_number 1 }
+    ensures identifier { identifier_member (Some (codes "s")) ≡ (codes "identifier", text "s") ∷ [] }
+    ensures anchor { anchor_member (codes "n", Plain) ≡ (codes "anchor", text "n") }
+    ensures dynamic_anchor { anchor_member (codes "n", Dynamic) ≡ (codes "dynamicAnchor", text "n") }
+    ensures reference { references_of (registry "http://a/r" (one "$ref" (text "#x"))).0 None
+        ≡ record {
+          document = 0;
+          path = [];
+          base = codes "http://a/r";
+          keyword = codes "$ref";
+          text = codes "#x";
+        } ∷ [] }
+    ensures another_document { references_of (registry "http://a/r" (one "$ref" (text "#x"))).0
+        (Some 1) ≡ [] }
+    ensures dynamic_reference { references_of
+        (registry "http://a/r" (one "$dynamicRef" (text "#x"))).0 (Some 0)
+        ≡ record {
+          document = 0;
+          path = [];
+          base = codes "http://a/r";
+          keyword = codes "$dynamicRef";
+          text = codes "#x";
+        } ∷ [] }
+    ensures no_reference { references_of (registry "http://a/r" (one "$ref" empty)).0 None ≡ [] }
+{}
+
+/// What has a fault, and what hasn't.
+pub fn faulty()
+    ensures missing { problem_fault (MissingDocument (codes "http://a/b"))
+        ≡ Some (not_retrieved (codes "http://a/b")) }
+    ensures dialect { problem_fault (UnknownDialect (codes "http://a/m"))
+        ≡ Some (UnknownSpecification (codes "http://a/m")) }
+    ensures nowhere { problem_fault (LeadsNowhere (codes "http://a/b") (NoSuchAnchor (codes "x")))
+        ≡ Some (NoSuchAnchor (codes "x")) }
+    ensures note { problem_fault ListOfItems ≡ None }
 {}

@@ -4,16 +4,20 @@
 //! `ref_streams` asks for the answer to each line.
 #![tactic(auto)]
 
+mod about;
 mod answer;
 mod asked;
 mod bundling;
 mod entering;
 pub mod examples;
+mod faults;
 mod following;
+mod given;
 mod listing;
 mod looking;
 mod opening;
 mod place;
+mod references;
 mod registry;
 mod state;
 mod vocabularies;

@@ -1,9 +1,13 @@
 //! `places` and `dangling`.
-ghost use Rattle.std.specs.Prelude.{◌≡◌, IfOk};
-ghost use Rattle.serde_json.specs.View.{view};
+ghost use Rattle.std.specs.Prelude.{◌≡◌, ◌∷◌, [], map, IfOk, OnOk};
+ghost use Rattle.serde_json.specs.View.{view, members_view};
+ghost use Rattle.ref_draft.specs.Anchors.{anchors};
+ghost use Rattle.ref_draft.specs.Schema.{identifier};
+ghost use Rattle.ref_draft.specs.Views.{anchor_name};
 ghost use Rattle.ref_index.specs.Listing.{listed_of};
 ghost use Rattle.ref_lint.specs.Dangling.{DanglingReference};
 ghost use Rattle.ref_lint.specs.Entries.{IsEntryOf};
+ghost use Rattle.ref_calls.specs.Objects.{with_all};
 ghost use Rattle.ref_calls.specs.Outcome.{Answers};
 ghost use Rattle.ref_serve.specs.Listings as spec;
 
@@ -11,12 +15,63 @@ use crate::place::put_site;
 use crate::registry::registry_of;
 use crate::state::State;
 use ref_calls::fault::fault_members;
-use ref_calls::members::put_text;
+use ref_calls::members::{Members, put_text};
+use ref_draft::{Anchor, AnchorIter};
 use ref_json::Stop;
 use ref_lint::{Dangling, dangling};
-use referencing::{Place, Registry};
+use referencing::{Draft, Place, Registry};
 use serde_json::{Map, Value, put};
 use std::alloc::{AllocError, Global};
+
+// Puts the identifier of a value, where it has one.
+fn put_identifier(
+    alloc: Global,
+    members: &mut Members,
+    draft: Draft,
+    value: &Value,
+) -> Result<(), AllocError>
+    ensures { OnOk result (members_view members.new.entries
+        ≡ with_all (spec.identifier_member (identifier draft (view value.now)))
+        (members_view members.old.entries)) }
+{
+    match draft.create_resource_ref(value).id() {
+        Some(id) => put_text(alloc, members, "identifier", id),
+        None => Ok(()),
+    }
+}
+
+// Puts an anchor.
+fn put_anchor(alloc: Global, members: &mut Members, anchor: &Anchor<'_>) -> Result<(), AllocError>
+    ensures { OnOk result (members_view members.new.entries
+        ≡ with_all (spec.anchor_member (anchor_name anchor.now) ∷ [])
+        (members_view members.old.entries)) }
+{
+    match anchor {
+        Anchor::Default { name, .. } => put_text(alloc, members, "anchor", *name),
+        Anchor::Dynamic { name, .. } => put_text(alloc, members, "dynamicAnchor", *name),
+    }
+}
+
+// Puts the anchors of a value.
+fn put_anchors(
+    alloc: Global,
+    members: &mut Members,
+    draft: Draft,
+    value: &Value,
+) -> Result<(), AllocError>
+    ensures { OnOk result (members_view members.new.entries
+        ≡ with_all (map spec.anchor_member (anchors draft (view value.now)))
+        (members_view members.old.entries)) }
+{
+    match draft.anchors(value) {
+        AnchorIter::Empty => Ok(()),
+        AnchorIter::One(anchor) => put_anchor(alloc, members, &anchor),
+        AnchorIter::Two(plain, dynamic) => {
+            put_anchor(alloc, members, &plain)?;
+            put_anchor(alloc, members, &dynamic)
+        }
+    }
+}
 
 // The object of a place.
 fn place_object(alloc: Global, place: &Place<'_>) -> Result<Value, AllocError>
@@ -26,6 +81,8 @@ fn place_object(alloc: Global, place: &Place<'_>) -> Result<Value, AllocError>
     put_site(alloc, &mut members, place.document, place.path.as_slice())?;
     put_text(alloc, &mut members, "base", place.base.as_str())?;
     put_text(alloc, &mut members, "draft", place.draft.name())?;
+    put_identifier(alloc, &mut members, place.draft, place.value)?;
+    put_anchors(alloc, &mut members, place.draft, place.value)?;
     Ok(Value::Object(members))
 }
 

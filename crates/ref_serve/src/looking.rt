@@ -1,5 +1,6 @@
 //! `lookup` and `recursive`.
 ghost use Rattle.std.specs.Prelude.{◌≡◌, Ok, IfOk, IfErr, Option, option_map};
+ghost use Rattle.serde_json.specs.Find.{as_str, as_array};
 ghost use Rattle.serde_json.specs.View.{view, items_view};
 ghost use Rattle.ref_error.specs.Errors.{IsFaultOf};
 ghost use Rattle.ref_resolver.specs.Resolving.{resolver_of as resolver_view, world_of};
@@ -14,12 +15,13 @@ use crate::asked::{Asked, asked_of, resolver_of};
 use crate::place::{found_at, located_object};
 use crate::state::State;
 use ref_calls::fault::{Wrong, at_index, fault_error, field_error};
-use ref_calls::field::{required, text_in};
+use ref_calls::field::{items_in, required, scope_in, text_in, uri_at};
 use ref_calls::members::object_of;
 use ref_json::Stop;
 use referencing::{Error, Resolver};
 use serde_json::Value;
-use std::alloc::Global;
+use std::alloc::{AllocError, Global};
+use std::rc::Rc;
 
 // What a reference means, as an object.
 fn found_object(
@@ -44,7 +46,7 @@ fn found_object(
 }
 
 // The same, or the error of its fault.
-fn found_or_stop(
+pub fn found_or_stop(
     alloc: Global,
     asked: &Asked<'_>,
     resolver: &Resolver<'_>,
@@ -64,17 +66,97 @@ fn found_or_stop(
     }
 }
 
-// The text that an item of a list of references is.
-fn reference_in<'t>(alloc: Global, item: &'t Value, index: usize) -> Result<&'t str, Stop<Value>>
-    ensures { Answers (λ s. s.now) result (results.reference_in index (view item.now)) }
+// The three items of a list.
+fn three_of(items: &[Value]) -> Option<(&Value, &Value, &Value)>
+    ensures { option_map (λ t. (view t.0.now, view t.1.now, view t.2.now)) result
+        ≡ results.three_of (items_view items.now) }
 {
-    match text_in(alloc, item, "reference") {
-        Ok(text) => Ok(text),
-        Err(stop) => Err(at_index(alloc, stop, index)),
+    let (first, rest) = items.split_first()?;
+    let (second, rest) = rest.split_first()?;
+    let (third, rest) = rest.split_first()?;
+    match rest.split_first() {
+        None => Some((first, second, third)),
+        Some(_) => None,
     }
 }
 
-// One of a list of references: what it means, or its error.
+// What is asked by a base, a scope and a text.
+fn question_from<'s, 't>(
+    alloc: Global,
+    asked: &Asked<'s>,
+    base: &Value,
+    scope: &Value,
+    text: &'t Value,
+) -> Result<(Resolver<'s>, &'t str), Stop<Value>>
+    ensures question { Answers (λ q. (resolver_view q.0, q.1.now)) result
+        (results.question_of (view base.now, view scope.now, view text.now)) }
+    ensures world { IfOk result (λ q. world_of q.0 ≡ asked.now.registry.now.0) }
+{
+    let base = uri_at(alloc, base, "base")?;
+    let scope = scope_in(alloc, scope)?;
+    let text = text_in(alloc, text, "reference")?;
+    let base = Rc::new(alloc, base)?;
+    let registry = asked.registry.registry();
+    Ok((registry.resolver_from_parts(base, scope), text))
+}
+
+// What the items of a list ask.
+fn question_of<'s, 't>(
+    alloc: Global,
+    asked: &Asked<'s>,
+    items: &'t [Value],
+) -> Result<(Resolver<'s>, &'t str), Stop<Value>>
+    ensures question { Answers (λ q. (resolver_view q.0, q.1.now)) result
+        (results.three_asked (items_view items.now)) }
+    ensures world { IfOk result (λ q. world_of q.0 ≡ asked.now.registry.now.0) }
+{
+    match three_of(items) {
+        Some((base, scope, text)) => question_from(alloc, asked, base, scope, text),
+        None => Err(field_error(alloc, Wrong::InvalidField, "reference")),
+    }
+}
+
+// What a reference means, or an object with its error.
+fn found_listed(
+    alloc: Global,
+    asked: &Asked<'_>,
+    resolver: &Resolver<'_>,
+    reference: &str,
+) -> Result<Value, AllocError>
+    requires { world_of resolver.now ≡ asked.now.registry.now.0 }
+    ensures { IfOk result
+        (λ d. results.IsListed (asked_view asked.now) (resolver_view resolver.now, reference.now)
+        (view d)) }
+{
+    match found_or_stop(alloc, asked, resolver, Some(reference)) {
+        Ok(object) => Ok(object),
+        Err(Stop::Because(error)) => object_of(alloc, "error", error),
+        Err(Stop::Memory) => Err(AllocError),
+    }
+}
+
+// What an item asks: of a text from a resolver, of a list from its own.
+fn found_as(
+    alloc: Global,
+    asked: &Asked<'_>,
+    resolver: &Resolver<'_>,
+    item: &Value,
+) -> Result<Value, Stop<Value>>
+    requires { world_of resolver.now ≡ asked.now.registry.now.0 }
+    ensures { Gives
+        (Then
+        (results.question_as (resolver_view resolver.now) (as_str (view item.now))
+        (as_array (view item.now))) (IsListedAs (asked_view asked.now))) result }
+{
+    if let Some(text) = item.as_str() {
+        return Ok(found_listed(alloc, asked, resolver, text)?);
+    }
+    let items = items_in(alloc, item, "reference")?;
+    let (own, text) = question_of(alloc, asked, items)?;
+    Ok(found_listed(alloc, asked, &own, text)?)
+}
+
+// The same, with the number of the item where it asks nothing.
 fn found_item(
     alloc: Global,
     asked: &Asked<'_>,
@@ -84,19 +166,16 @@ fn found_item(
 ) -> Result<Value, Stop<Value>>
     requires { world_of resolver.now ≡ asked.now.registry.now.0 }
     ensures { Gives
-        (Then (results.reference_in index (view item.now))
-        (IsListedAs (asked_view asked.now)
-        (resolver_view resolver.now))) result }
+        (Then (results.question_in (resolver_view resolver.now) index (view item.now))
+        (IsListedAs (asked_view asked.now))) result }
 {
-    let reference = reference_in(alloc, item, index)?;
-    match found_or_stop(alloc, asked, resolver, Some(reference)) {
+    match found_as(alloc, asked, resolver, item) {
         Ok(object) => Ok(object),
-        Err(Stop::Because(error)) => Ok(object_of(alloc, "error", error)?),
-        Err(Stop::Memory) => Err(Stop::Memory),
+        Err(stop) => Err(at_index(alloc, stop, index)),
     }
 }
 
-// Each of a list of references, in order.
+// Each item of a list, in order.
 fn found_items(
     alloc: Global,
     asked: &Asked<'_>,
@@ -105,9 +184,8 @@ fn found_items(
 ) -> Result<Value, Stop<Value>>
     requires { world_of resolver.now ≡ asked.now.registry.now.0 }
     ensures { Gives
-        (Then (each_item results.reference_in 0 (items_view items.now))
-        (results.IsList (asked_view asked.now)
-        (resolver_view resolver.now))) result }
+        (Then (each_item (results.question_in (resolver_view resolver.now)) 0 (items_view items.now))
+        (results.IsList (asked_view asked.now))) result }
 {
     let mut list = Vec::with_capacity(alloc, items.len())?;
     for (index, item) in items.iter().enumerate() {

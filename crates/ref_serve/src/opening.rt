@@ -12,6 +12,7 @@ ghost use Rattle.ref_serve.specs.Opening as spec;
 ghost use Rattle.ref_serve.specs.inner.Openings.{layers_at, parent_view, opening_view, asked_view, IsWorldOr, IsMetaWorldOr, GivesOpened};
 ghost use Rattle.ref_serve.specs.State.{Registries};
 
+use crate::given::{numbers_given, uris_given};
 use crate::registry::registry_in;
 use crate::state::{Open, State};
 use ref_calls::document::{
@@ -22,6 +23,7 @@ use ref_calls::field::{draft_of, number_in};
 use ref_calls::members::{Members, push_text, put_number};
 use ref_json::Stop;
 use ref_registries::{registry_from, registry_from_meta_schemas};
+use ref_uri::Uri;
 use referencing::{DEFAULT_RETRIEVAL_LIMIT, Draft, MapRetriever, Registry};
 use serde_json::{Map, Value, put};
 use std::alloc::{AllocError, Global};
@@ -206,23 +208,34 @@ fn put_opened(
     members: &mut Members,
     number: usize,
     added: &Open,
+    given: &[Option<Uri>],
 ) -> Result<(), AllocError>
-    ensures { OnOk result (members_view members.new.entries
-        ≡ with_all (spec.opened_members number added.now.0) (members_view members.old.entries)) }
+    ensures { (texts : List (List ℕ)) → map (option_map (λ u. u)) given.now ≡ map spec.uri_given texts
+        → OnOk result (members_view members.new.entries
+        ≡ with_all (spec.opened_members number added.now.0 texts)
+        (members_view members.old.entries)) }
 {
     put_number(alloc, members, "registry", number)?;
     let uris = uris_of(alloc, added.registry())?;
-    put(members, alloc, "documents", uris)
+    put(members, alloc, "documents", uris)?;
+    let numbers = numbers_given(alloc, added.registry(), given)?;
+    put(members, alloc, "given", numbers)
 }
 
 // One registry, which gets the next number.
-fn open_one(alloc: Global, number: usize, added: Open) -> Result<Opened, AllocError>
-    ensures result { IfOk result
-        (λ opened. view opened.result ≡ object_of (spec.opened_members number added.0)) }
+fn open_one(
+    alloc: Global,
+    number: usize,
+    added: Open,
+    given: &[Option<Uri>],
+) -> Result<Opened, AllocError>
+    ensures result { (texts : List (List ℕ))
+        → map (option_map (λ u. u)) given.now ≡ map spec.uri_given texts → IfOk result
+        (λ opened. view opened.result ≡ object_of (spec.opened_members number added.0 texts)) }
     ensures one { IfOk result (λ opened. opened.registries.items ≡ Some added ∷ []) }
 {
     let mut members = Map::new(alloc);
-    put_opened(alloc, &mut members, number, &added)?;
+    put_opened(alloc, &mut members, number, &added, given)?;
     let mut registries = Vec::with_capacity(alloc, 1)?;
     registries.push(Some(added))?;
     Ok(Opened {
@@ -232,16 +245,23 @@ fn open_one(alloc: Global, number: usize, added: Open) -> Result<Opened, AllocEr
 }
 
 // A registry and its parent, which get the next two numbers.
-fn open_both(alloc: Global, number: usize, parent: Open, added: Open) -> Result<Opened, AllocError>
+fn open_both(
+    alloc: Global,
+    number: usize,
+    parent: Open,
+    added: Open,
+    given: &[Option<Uri>],
+) -> Result<Opened, AllocError>
     requires next { number + 1 < 2 ^ 64 }
-    ensures result { IfOk result
-        (λ opened. view opened.result ≡ object_of (spec.opened_members (number + 1) added.0
+    ensures result { (texts : List (List ℕ))
+        → map (option_map (λ u. u)) given.now ≡ map spec.uri_given texts → IfOk result
+        (λ opened. view opened.result ≡ object_of (spec.opened_members (number + 1) added.0 texts
         ++ (codes "parent", whole number) ∷ [])) }
     ensures both { IfOk result
         (λ opened. opened.registries.items ≡ Some parent ∷ Some added ∷ []) }
 {
     let mut members = Map::new(alloc);
-    put_opened(alloc, &mut members, number + 1, &added)?;
+    put_opened(alloc, &mut members, number + 1, &added, given)?;
     put_number(alloc, &mut members, "parent", number)?;
     let mut registries = Vec::with_capacity(alloc, 2)?;
     registries.push(Some(parent))?;
@@ -266,9 +286,10 @@ fn open_above(
         (opening_view wanted) state.old) state.old result }
 {
     let number = state.len();
+    let given = uris_given(alloc, wanted.documents.as_slice())?;
     let above = lent_first(alloc, state, numbers.as_slice())?;
     let added = open_of(alloc, above, numbers, wanted)?;
-    Ok(open_one(alloc, number, added)?)
+    Ok(open_one(alloc, number, added, given.as_slice())?)
 }
 
 // A registry above meta-schemas, which are opened with it.
@@ -284,11 +305,12 @@ fn open_above_meta_schemas(
         (spec.IsOpenedBy (spec.AboveMetaSchemas (map given_of documents.items))
         (opening_view wanted) state) state result }
 {
+    let given = uris_given(alloc, wanted.documents.as_slice())?;
     let mut parent = open_meta_schemas(alloc, documents)?;
     let numbers = numbers_of(alloc, number, &parent)?;
     let registry = parent.lend(alloc)?;
     let added = open_of(alloc, Some(registry), numbers, wanted)?;
-    Ok(open_both(alloc, number, parent, added)?)
+    Ok(open_both(alloc, number, parent, added, given.as_slice())?)
 }
 
 /// Opens a registry of documents, and with it one of meta-schemas where its parent is a list of them.

@@ -1,20 +1,17 @@
-use Rattle.std.proofs.Common.{Ok, Err, refl}
+use Rattle.serde_json.specs.Find.{as_str, as_array}
 use Rattle.serde_json.specs.View.{view}
 use Rattle.ref_resolver.specs.Resolving.{resolver_of as resolver_view}
-use Rattle.ref_serve.specs.Results.{IsLookedUp, reference_in}
-use Rattle.ref_serve.specs.inner.Giving.{IsListedAs}
+use Rattle.ref_serve.specs.Results.{question_as}
 use Rattle.ref_serve.specs.inner.Seen.{asked_view}
-use Rattle.ref_serve.proofs.Giving.{then_ok}
+use Rattle.ref_serve.proofs.ListOfReferences.{found_at_index, stopped_at_index}
 use Rattle.ref_serve.proofs.looking.found_item.Goals as goal
 
 pub returns-in-Ok : goal.returns-in-Ok
-unfolding IsLookedUp
 returns-in-Ok c =
-    then_ok (reference_in c.args.index (view c.args.item.now)) c.in_ok-reference.reference.now (IsListedAs (asked_view c.args.asked.now) (resolver_view c.args.resolver.now)) (Ok (view c.in-Ok.object)) c.in_ok-reference.ensures
-    (Ok (view c.in-Ok.object), c.in-Ok.ensures, refl)
+    let d = view c.args.item.now in
+    found_at_index (asked_view c.args.asked.now) (question_as (resolver_view c.args.resolver.now) (as_str d) (as_array d)) c.args.index (view c.in-Ok.object) c.in-Ok.ensures
 
-pub returns-in_ok-object_of-in-Err-Because : goal.returns-in_ok-object_of-in-Err-Because
-unfolding IsLookedUp
-returns-in_ok-object_of-in-Err-Because c =
-    then_ok (reference_in c.args.index (view c.args.item.now)) c.in_ok-reference.reference.now (IsListedAs (asked_view c.args.asked.now) (resolver_view c.args.resolver.now)) (Ok (view c.in_ok-object_of-in-Err-Because.field-0)) c.in_ok-reference.ensures
-    (Err (view c.in-Err-Because.error), (rw c.in-Err-Because.field-0-is at c.in-Err-Because.ensures), c.in_ok-object_of-in-Err-Because.ensures)
+pub returns-in-Err : goal.returns-in-Err
+returns-in-Err c =
+    let d = view c.args.item.now in
+    stopped_at_index (asked_view c.args.asked.now) (question_as (resolver_view c.args.resolver.now) (as_str d) (as_array d)) c.args.index c.in-Err.stop c.at_index.result c.in-Err.ensures c.at_index.ensures

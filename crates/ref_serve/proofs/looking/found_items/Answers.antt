@@ -3,7 +3,7 @@ use Rattle.std.proofs.lemmas.List.{map-append, drop_all, drop_more}
 use Rattle.serde_json.specs.View.{view, items_view}
 use Rattle.ref_resolver.specs.Resolving.{resolver_of as resolver_view}
 use Rattle.ref_calls.specs.Calls.{each_item}
-use Rattle.ref_serve.specs.Results.{reference_in}
+use Rattle.ref_serve.specs.Results.{question_in}
 use Rattle.ref_serve.specs.inner.Seen.{asked_view}
 use Rattle.serde_json.proofs.Views.{view-Array}
 use Rattle.ref_serve.proofs.ListOfReferences.{IsSoFar, next_listed, all_listed}
@@ -14,24 +14,24 @@ loop-index-preserved c =
     let asked = asked_view c.args.asked.now in
     let r = resolver_view c.args.resolver.now in
     let n = c.loop-index.index in
-    let all = each_item reference_in 0 (items_view c.args.items.now) in
+    let all = each_item (question_in r) 0 (items_view c.args.items.now) in
     let items = c.loop-index.list.items in
     let item = c.index-items-index.result in
     let object = c.in_ok-object.object in
     let rest = drop (n + 1) c.args.items.now in
     let steps : drop n c.args.items.now ≡ item ∷ rest = drop_more c.args.items.now n item c.loop-index-test.true ∙ ap (λ x. x ∷ rest) (sym c.index-items-index.is) in
-    subst (λ k. IsSoFar asked r (map view c.push.new.self.items) (each_item reference_in k (items_view rest)) all) (sym (add-one n))
-    (subst (λ ds. IsSoFar asked r ds (each_item reference_in (suc n) (items_view rest)) all) (sym (ap (map view) c.in_ok-push.ensures.items ∙ map-append view items (object ∷ [])))
+    subst (λ k. IsSoFar asked (map view c.push.new.self.items) (each_item (question_in r) k (items_view rest)) all) (sym (add-one n))
+    (subst (λ ds. IsSoFar asked ds (each_item (question_in r) (suc n) (items_view rest)) all) (sym (ap (map view) c.in_ok-push.ensures.items ∙ map-append view items (object ∷ [])))
     (next_listed asked r all (map view items) (view item) (items_view rest) (view object) n
-    (subst (λ left. IsSoFar asked r (map view items) (each_item reference_in n (items_view left)) all) steps c.loop-index.invariant) c.in_ok-object.ensures))
+    (subst (λ left. IsSoFar asked (map view items) (each_item (question_in r) n (items_view left)) all) steps c.loop-index.invariant) c.in_ok-object.ensures))
 
 pub returns : goal.returns
 returns c =
     let asked = asked_view c.args.asked.now in
     let r = resolver_view c.args.resolver.now in
     let n = c.loop-index.index in
-    let all = each_item reference_in 0 (items_view c.args.items.now) in
+    let all = each_item (question_in r) 0 (items_view c.args.items.now) in
     let ds = map view c.loop-index.list.items in
     let gone : length c.args.items.now ≤ n = search rules in
     let none : drop n c.args.items.now ≡ [] = drop_all n c.args.items.now gone in
-    rw (view-Array c.loop-index.list) (all_listed asked r all ds (subst (λ left. IsSoFar asked r ds (each_item reference_in n (items_view left)) all) none c.loop-index.invariant))
+    rw (view-Array c.loop-index.list) (all_listed asked all ds (subst (λ left. IsSoFar asked ds (each_item (question_in r) n (items_view left)) all) none c.loop-index.invariant))

@@ -1,0 +1,233 @@
+//! `references`.
+ghost use Rattle.std.specs.Prelude.{◌≡◌, ◌∷◌, [], codes, filter, flat_map, Ok, IfOk, OnOk, option_map};
+ghost use Rattle.std.specs.Option.{option_to_list};
+ghost use Rattle.serde_json.specs.Find.{get};
+ghost use Rattle.serde_json.specs.View.{view};
+ghost use Rattle.ref_findings.specs.Places.{dynamic_keyword};
+ghost use Rattle.ref_index.specs.Listing.{listed_of};
+ghost use Rattle.ref_resolver.specs.Resolving.{resolver_of as resolver_view, world_of};
+ghost use Rattle.ref_calls.specs.Outcome.{Answers};
+ghost use Rattle.ref_serve.specs.References as spec;
+ghost use Rattle.ref_serve.specs.inner.Giving.{Gives};
+ghost use Rattle.ref_serve.specs.inner.Referred.{Adds, IsTarget, reference_of};
+ghost use Rattle.ref_serve.specs.inner.Seen.{asked_view};
+
+use crate::asked::{Asked, asked_of};
+use crate::looking::found_or_stop;
+use crate::place::put_site;
+use crate::state::State;
+use ref_calls::field::number_in;
+use ref_calls::members::put_text;
+use ref_index::meanings::text_under;
+use ref_json::Stop;
+use ref_parts::list::List;
+use referencing::{Draft, Place, Resolver};
+use serde_json::{Map, Value, put};
+use std::alloc::{AllocError, Global};
+
+// A reference: the place that has it, its keyword, and its text.
+#[derive(Clone, Copy, Drop)]
+struct Reference<'r, 'p> {
+    place: &'r Place<'p>,
+    keyword: &'static str,
+    text: &'r str,
+}
+
+// The keyword that a draft has for dynamic references.
+fn dynamic_keyword(draft: Draft) -> Option<&'static str>
+    ensures { option_map (λ k. k.now) result ≡ dynamic_keyword draft }
+{
+    match draft {
+        Draft::Draft4 | Draft::Draft6 | Draft::Draft7 => None,
+        Draft::Draft201909 => Some("$recursiveRef"),
+        Draft::Draft202012 | Draft::Unknown => Some("$dynamicRef"),
+    }
+}
+
+// The object of a reference.
+fn reference_object(
+    alloc: Global,
+    asked: &Asked<'_>,
+    reference: Reference<'_, '_>,
+) -> Result<Value, AllocError>
+    ensures { IfOk result
+        (λ d. spec.IsReferred (asked_view asked.now) (reference_of reference.entry) (view d)) }
+{
+    let Reference {
+        place,
+        keyword,
+        text,
+    } = reference;
+    let mut members = Map::new(alloc);
+    put_site(alloc, &mut members, place.document, place.path.as_slice())?;
+    put_text(alloc, &mut members, "keyword", keyword)?;
+    put_text(alloc, &mut members, "reference", text)?;
+    let resolver = resolver_at(alloc, asked, place)?;
+    let (key, target) = target_of(alloc, asked, &resolver, text)?;
+    put(&mut members, alloc, key, target)?;
+    Ok(Value::Object(members))
+}
+
+// The resolver at a place, with an empty dynamic scope.
+fn resolver_at<'s>(
+    alloc: Global,
+    asked: &Asked<'s>,
+    place: &Place<'_>,
+) -> Result<Resolver<'s>, AllocError>
+    ensures resolver { IfOk result
+        (λ r. resolver_view r ≡ record { base = place.now.base.value; scope = [] }) }
+    ensures world { IfOk result (λ r. world_of r ≡ asked.now.registry.now.0) }
+{
+    let base = place.base.clone()?;
+    let registry = asked.registry.registry();
+    Ok(registry.resolver_from_parts(base, List::new()))
+}
+
+// What a text means from a resolver, under `target`, or the error of its fault, under `error`.
+fn target_of(
+    alloc: Global,
+    asked: &Asked<'_>,
+    resolver: &Resolver<'_>,
+    text: &str,
+) -> Result<(&'static str, Value), AllocError>
+    requires { world_of resolver.now ≡ asked.now.registry.now.0 }
+    ensures { IfOk result
+        (λ t. IsTarget (asked_view asked.now) (resolver_view resolver.now) text.now
+        (t.0.now, view t.1)) }
+{
+    match found_or_stop(alloc, asked, resolver, Some(text)) {
+        Ok(target) => Ok(("target", target)),
+        Err(Stop::Because(error)) => Ok(("error", error)),
+        Err(Stop::Memory) => Err(AllocError),
+    }
+}
+
+// Adds the object of the reference under a keyword of a place, where there is one.
+fn push_reference(
+    alloc: Global,
+    asked: &Asked<'_>,
+    list: &mut Vec<Value>,
+    place: &Place<'_>,
+    keyword: &'static str,
+) -> Result<(), AllocError>
+    ensures { OnOk result
+        (Adds (asked_view asked.now)
+        (spec.reference_under (listed_of place.now) place.now.base.value keyword.now)
+        list.old.items list.new.items) }
+{
+    let Some(text) = text_under(place.value, keyword) else {
+        return Ok(());
+    };
+    let reference = Reference {
+        place,
+        keyword,
+        text,
+    };
+    let object = reference_object(alloc, asked, reference)?;
+    list.push(object)?;
+    Ok(())
+}
+
+// Adds that under the keyword that a draft has for dynamic references.
+fn push_dynamic(
+    alloc: Global,
+    asked: &Asked<'_>,
+    list: &mut Vec<Value>,
+    place: &Place<'_>,
+) -> Result<(), AllocError>
+    ensures { OnOk result
+        (Adds (asked_view asked.now)
+        (flat_map (spec.reference_under (listed_of place.now) place.now.base.value)
+        (option_to_list (dynamic_keyword place.now.draft))) list.old.items list.new.items) }
+{
+    match dynamic_keyword(place.draft) {
+        Some(keyword) => push_reference(alloc, asked, list, place, keyword),
+        None => Ok(()),
+    }
+}
+
+// Adds those of a place.
+fn push_place(
+    alloc: Global,
+    asked: &Asked<'_>,
+    list: &mut Vec<Value>,
+    place: &Place<'_>,
+) -> Result<(), AllocError>
+    ensures { OnOk result
+        (Adds (asked_view asked.now) (spec.references_at (listed_of place.now)) list.old.items
+        list.new.items) }
+{
+    push_reference(alloc, asked, list, place, "$ref")?;
+    push_dynamic(alloc, asked, list, place)
+}
+
+// Whether a place is in the document that is asked for.
+fn is_in(document: Option<usize>, place: &Place<'_>) -> bool
+    ensures { result ≡ spec.is_in document (listed_of place.now) }
+{
+    match document {
+        Some(number) => place.document == number,
+        None => true,
+    }
+}
+
+// Adds those of a place, where it is in the document that is asked for.
+fn push_asked(
+    alloc: Global,
+    asked: &Asked<'_>,
+    document: Option<usize>,
+    list: &mut Vec<Value>,
+    place: &Place<'_>,
+) -> Result<(), AllocError>
+    ensures { OnOk result
+        (Adds (asked_view asked.now)
+        (flat_map spec.references_at
+        (filter (spec.is_in document) (listed_of place.now ∷ []))) list.old.items
+        list.new.items) }
+{
+    if !is_in(document, place) {
+        return Ok(());
+    }
+    push_place(alloc, asked, list, place)
+}
+
+// The list of the references of a registry, or of one of its documents.
+fn references_in(
+    alloc: Global,
+    asked: &Asked<'_>,
+    document: Option<usize>,
+) -> Result<Value, AllocError>
+    ensures { IfOk result
+        (λ d. spec.AreReferred (asked_view asked.now) document (Ok (view d))) }
+{
+    // Out of memory is its one error.
+    let Ok(places) = asked.registry.registry().places(alloc) else {
+        return Err(AllocError);
+    };
+    let mut list = Vec::new(alloc);
+    for place in &places {
+        push_asked(alloc, asked, document, &mut list, place)?;
+    }
+    Ok(Value::Array(list))
+}
+
+// The number under `document`, where it is there.
+fn document_of(alloc: Global, tree: &Value) -> Result<Option<usize>, Stop<Value>>
+    ensures { Answers (λ n. n) result
+        (spec.document_at (get (codes "document") (view tree.now))) }
+{
+    match tree.get("document") {
+        Some(value) => Ok(Some(number_in(alloc, value, "document")?)),
+        None => Ok(None),
+    }
+}
+
+/// The references of a registry's own documents, each with what it leads to.
+#[tactic(auto, unfolding(crate::specs::References::IsReferences))]
+pub fn references(alloc: Global, state: &State, tree: &Value) -> Result<Value, Stop<Value>>
+    ensures { Gives (spec.IsReferences state.now (view tree.now)) result }
+{
+    let asked = asked_of(alloc, state, tree)?;
+    let document = document_of(alloc, tree)?;
+    Ok(references_in(alloc, &asked, document)?)
+}
