@@ -70,8 +70,26 @@ impl<'d> Problem<'d> {
     }
 }
 
-/// A finding of a schema, in the document with a number.
-pub(crate) fn plain<'d>(finding: SchemaFinding<'d>, source: usize) -> Finding<'d> {
+// A problem whose places are in the documents whose numbers stand at the numbers of their sources.
+fn renumbered<'d>(problem: SchemaProblem<'d>, numbers: &[usize]) -> SchemaProblem<'d> {
+    let mut problem = problem;
+    let bearer = match &mut problem {
+        SchemaProblem::DuplicateIdentifier { first, .. } => first,
+        SchemaProblem::DuplicateAnchor { first, .. } => first,
+        SchemaProblem::GuessedDraft { by, .. } => by,
+        _ => return problem,
+    };
+    bearer.source = numbers.get(bearer.source).copied().unwrap_or(bearer.source);
+    problem
+}
+
+/// A finding of a schema, in the document with a number, whose other places are in the documents whose numbers stand at the numbers of
+/// their sources.
+pub(crate) fn plain<'d>(
+    finding: SchemaFinding<'d>,
+    source: usize,
+    numbers: &[usize],
+) -> Finding<'d> {
     let SchemaFinding {
         source: _,
         path,
@@ -84,7 +102,7 @@ pub(crate) fn plain<'d>(finding: SchemaFinding<'d>, source: usize) -> Finding<'d
         path,
         keyword,
         text,
-        problem: Problem::Plain(problem),
+        problem: Problem::Plain(renumbered(problem, numbers)),
     }
 }
 
@@ -96,7 +114,7 @@ pub(crate) fn push_plain<'d>(
 ) -> Result<(), AllocError> {
     for finding in findings {
         if let Some(number) = numbers.get(finding.source).copied() {
-            push(list, plain(finding, number))?;
+            push(list, plain(finding, number, numbers))?;
         }
     }
     Ok(())

@@ -160,7 +160,7 @@ impl Workspace {
         for finding in report(alloc, self.draft(), sources.as_slice(), &[])?.findings {
             if matches!(finding.problem, Problem::InvalidUri(_) | Problem::NotJson) {
                 let source = finding.source.saturating_add(self.opened());
-                push(list, plain(finding, source))?;
+                push(list, plain(finding, source, &[]))?;
             }
         }
         Ok(())
