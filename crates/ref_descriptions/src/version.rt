@@ -2,7 +2,7 @@
 ghost use Rattle.std.specs.Prelude.{◌≡◌, ◌||◌, nat_eq, bytes_eq};
 ghost use Rattle.std.specs.List.{starts_with};
 ghost use Rattle.serde_json.specs.View.{view};
-ghost use Rattle.ref_descriptions.specs.Versions.{openapi_version, version_of};
+ghost use Rattle.ref_descriptions.specs.Versions.{openapi_version, version_name, version_of};
 
 use serde_json::Value;
 
@@ -17,6 +17,20 @@ pub enum Version {
     V3_1,
     /// 3.2, with any third number.
     V3_2,
+}
+
+impl Version {
+    /// The version's name, as `3.0`. Takes no memory.
+    pub fn name(self) -> &'static str
+        ensures value { result.now ≡ version_name self }
+    {
+        match self {
+            Version::V2_0 => "2.0",
+            Version::V3_0 => "3.0",
+            Version::V3_1 => "3.1",
+            Version::V3_2 => "3.2",
+        }
+    }
 }
 
 // Whether a text is a version's name, or begins with that and a dot.
