@@ -1,13 +1,19 @@
 //! The documents, and what references are looked up in.
+ghost use Rattle.std.specs.Prelude.{◌≡◌, ◌==◌, map, length, option_map, IfOk};
+ghost use Rattle.serde_json.specs.View.{view};
+ghost use Rattle.ref_reach.specs.Places.{AreOwn, own_at};
+ghost use Rattle.ref_reach.specs.Leading.{version_at};
+ghost use Rattle.ref_reach.specs.Views.{source_of, place_of};
+ghost use Rattle.ref_reach.specs.Knowing.{known_of};
+
+use crate::described::{Documents, Part};
 use crate::own::{own_places, roots_of};
 use crate::place::Place;
 use crate::table::{number_text, table_of};
 use ref_descriptions::{Version, version_of};
 use ref_draft::Draft;
 use ref_findings::mended;
-use ref_index::{Contents, Document, Index, Walked};
-use ref_parts::SortedTable;
-use ref_parts::path::JsonPointerNode;
+use ref_index::{Contents, Document, Walked};
 use ref_uri::Uri;
 use serde_json::Value;
 use std::alloc::{AllocError, Global};
@@ -20,27 +26,6 @@ pub struct Source<'v> {
     pub uri: Uri,
     /// The value, which is never copied.
     pub value: &'v Value,
-}
-
-/// A part of a document that has a URI of its own: a schema with an identifier, or a description with a `$self`.
-#[derive(Drop)]
-pub(crate) struct Part<'v> {
-    /// The number of the document.
-    pub document: usize,
-    /// The path there.
-    pub path: JsonPointerNode<'v>,
-}
-
-/// Documents, the own places of the descriptions among them, and the index that references are looked up in: the documents are first in it,
-/// and after them those parts of descriptions that have URIs of their own.
-#[derive(Drop)]
-pub struct Documents<'v> {
-    pub(crate) uris: Vec<Rc<Uri>>,
-    pub(crate) values: Vec<&'v Value>,
-    pub(crate) own: Vec<Place<'v>>,
-    pub(crate) table: SortedTable<usize>,
-    pub(crate) parts: Vec<Part<'v>>,
-    pub(crate) index: Index<'v>,
 }
 
 // The draft that a document is in the index with. Of a description it counts only for the `definitions` of 2.0.
@@ -132,7 +117,10 @@ fn with_parts<'v>(
 }
 
 // The URIs of documents, to be shared.
-fn uris_of(alloc: Global, sources: &[Source<'_>]) -> Result<Vec<Rc<Uri>>, AllocError> {
+fn uris_of(alloc: Global, sources: &[Source<'_>]) -> Result<Vec<Rc<Uri>>, AllocError>
+    ensures { IfOk result
+        (λ uris. map (λ u. u.value) uris.items ≡ map (λ s. (source_of s).uri) sources.now) }
+{
     let mut uris = Vec::with_capacity(alloc, sources.len())?;
     for source in sources {
         let uri = source.uri.clone()?;
@@ -142,7 +130,11 @@ fn uris_of(alloc: Global, sources: &[Source<'_>]) -> Result<Vec<Rc<Uri>>, AllocE
 }
 
 // Their values.
-fn values_of<'v>(alloc: Global, sources: &[Source<'v>]) -> Result<Vec<&'v Value>, AllocError> {
+fn values_of<'v>(alloc: Global, sources: &[Source<'v>]) -> Result<Vec<&'v Value>, AllocError>
+    ensures { IfOk result
+        (λ values. map (λ v. view v.now) values.items
+        ≡ map (λ s. (source_of s).tree) sources.now) }
+{
     let mut values = Vec::with_capacity(alloc, sources.len())?;
     for source in sources {
         values.push(source.value)?;
@@ -156,7 +148,13 @@ pub fn documents_of<'v>(
     alloc: Global,
     draft: Draft,
     sources: &[Source<'v>],
-) -> Result<Documents<'v>, AllocError> {
+) -> Result<Documents<'v>, AllocError>
+    ensures uris { IfOk result
+        (λ d. (known_of d).uris ≡ map (λ s. (source_of s).uri) sources.now) }
+    ensures trees { IfOk result
+        (λ d. (known_of d).trees ≡ map (λ s. (source_of s).tree) sources.now) }
+    ensures own { IfOk result (λ d. AreOwn (map source_of sources.now) (known_of d).own) }
+{
     let own = own_places(alloc, roots_of(alloc, sources)?)?;
     let table = table_of(alloc, own.as_slice())?;
     let mut parts = Vec::new(alloc);
@@ -175,17 +173,23 @@ pub fn documents_of<'v>(
 
 impl<'v> Documents<'v> {
     /// How many documents there are.
-    pub fn len(&self) -> usize {
+    pub fn len(&self) -> usize
+        ensures value { result ≡ length (known_of self.now).uris }
+    {
         self.uris.len()
     }
 
     /// Whether there are none.
-    pub fn is_empty(&self) -> bool {
+    pub fn is_empty(&self) -> bool
+        ensures value { result ≡ (length (known_of self.now).uris == 0) }
+    {
         self.uris.is_empty()
     }
 
     /// The version of a document, where it is a description. A look-up; takes no memory.
-    pub fn version(&self, document: usize) -> Option<Version> {
+    pub fn version(&self, document: usize) -> Option<Version>
+        ensures value { result ≡ version_at (known_of self.now) document }
+    {
         match self.values.get(document) {
             Some(value) => version_of(*value),
             None => None,
@@ -193,7 +197,9 @@ impl<'v> Documents<'v> {
     }
 
     /// The own places of the descriptions: their roots in order, and then what is right below each of these places in turn.
-    pub fn own(&self) -> &[Place<'v>] {
+    pub fn own(&self) -> &[Place<'v>]
+        ensures value { map place_of result.now ≡ (known_of self.now).own }
+    {
         self.own.as_slice()
     }
 
@@ -203,7 +209,11 @@ impl<'v> Documents<'v> {
         alloc: Global,
         document: usize,
         pointer: &str,
-    ) -> Result<Option<&Place<'v>>, AllocError> {
+    ) -> Result<Option<&Place<'v>>, AllocError>
+        ensures value { IfOk result
+            (λ place. option_map (λ p. place_of p.now) place
+            ≡ own_at (known_of self.now).own document pointer.now) }
+    {
         let text = number_text(alloc, document)?;
         let (number, _) = self.table.get(pointer, text.as_str());
         match number {

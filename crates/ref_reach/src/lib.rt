@@ -1,9 +1,10 @@
 //! What references lead to: the places of OpenAPI descriptions, those that references of these lead to, and so on, with what is wrong
 //! with the references.
 //!
-//! Read `specs/Reach.antt` first, upon `Fields.antt`, `Below.antt` and `References.antt` of `ref_descriptions`.
+//! Read `specs/Places.antt` and `specs/Leading.antt` first, upon `Fields.antt`, `Below.antt` and `References.antt` of `ref_descriptions`.
 #![tactic(auto)]
 
+mod described;
 mod documents;
 mod finding;
 mod leading;
@@ -14,7 +15,8 @@ mod reaching;
 mod seen;
 mod table;
 
-pub use documents::{Documents, Source, documents_of};
+pub use described::Documents;
+pub use documents::{Source, documents_of};
 pub use finding::{Finding, Level, Problem};
 pub use place::Place;
-pub use reaching::{Reach, reach};
+pub use reaching::{Reached, reach};

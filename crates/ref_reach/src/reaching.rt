@@ -1,7 +1,8 @@
 //! What references lead to, again and again.
-use crate::documents::Documents;
+
+use crate::described::Documents;
 use crate::finding::Finding;
-use crate::leading::{Outcome, outcome};
+use crate::leading::{Outcome, outcome_of};
 use crate::place::Place;
 use crate::seen::Seen;
 use ref_descriptions::{Reference, references};
@@ -9,7 +10,7 @@ use std::alloc::{AllocError, Global};
 
 /// What is reached from descriptions, and what is wrong with the references there.
 #[derive(Drop)]
-pub struct Reach<'r> {
+pub struct Reached<'r> {
     /// The places that references lead to and that no description has by itself, and what is below them, each once: in the order in which
     /// they are met.
     pub places: Vec<Place<'r>>,
@@ -22,73 +23,54 @@ pub struct Reach<'r> {
 // What was reached so far.
 #[derive(Drop)]
 struct State<'r> {
-    reach: Reach<'r>,
-    seen: Seen,
+    reached: Seen<'r>,
+    findings: Vec<Finding<'r>>,
+    references: usize,
+}
+
+// Adds a finding after the others.
+fn push<'r>(list: &mut Vec<Finding<'r>>, finding: Finding<'r>) -> Result<(), AllocError> {
+    list.push(finding)?;
+    Ok(())
 }
 
 impl<'r> State<'r> {
-    // Nothing.
-    fn new(alloc: Global) -> State<'r> {
-        State {
-            reach: Reach {
-                places: Vec::new(alloc),
-                findings: Vec::new(alloc),
-                references: 0,
-            },
-            seen: Seen::new(alloc),
-        }
-    }
-
-    // Adds a place, where it is new.
-    fn add(&mut self, alloc: Global, place: Place<'r>) -> Result<(), AllocError> {
-        if self.seen.add(alloc, &place)? {
-            self.reach.places.push(place)?;
-        }
-        Ok(())
-    }
-
-    // Adds places, where they are new.
-    fn add_all(&mut self, alloc: Global, places: Vec<Place<'r>>) -> Result<(), AllocError> {
-        for place in places {
-            self.add(alloc, place)?;
-        }
-        Ok(())
-    }
-
     // Adds what a reference of the place with a number leads to, or what is wrong with it.
-    fn add_outcome(
+    fn add(
         &mut self,
         alloc: Global,
         number: usize,
         reference: Reference<'r>,
         outcome: Outcome<'r>,
     ) -> Result<(), AllocError> {
-        self.reach.references = self.reach.references.saturating_add(1);
+        self.references = self.references.saturating_add(1);
         match outcome {
             Outcome::Nothing => Ok(()),
-            Outcome::Leads(place) => self.add(alloc, place),
-            Outcome::Wrong(problem) => {
-                self.reach.findings.push(Finding {
+            Outcome::Leads(place) => self.reached.add(alloc, place),
+            Outcome::Wrong(problem) => push(
+                &mut self.findings,
+                Finding {
                     place: number,
                     under: reference.under,
                     keyword: reference.keyword,
                     text: reference.text,
                     problem,
-                })?;
-                Ok(())
-            }
+                },
+            ),
         }
     }
 
-    // Adds what the outcomes of references are.
-    fn add_outcomes(
+    // Adds what the references of the place with a number lead to, and what is wrong with them.
+    fn follow(
         &mut self,
         alloc: Global,
+        documents: &'r Documents<'r>,
         number: usize,
-        outcomes: Vec<(Reference<'r>, Outcome<'r>)>,
+        place: &Place<'r>,
     ) -> Result<(), AllocError> {
-        for (reference, outcome) in outcomes {
-            self.add_outcome(alloc, number, reference, outcome)?;
+        for reference in references(alloc, place.reading, place.value)? {
+            let outcome = outcome_of(alloc, documents, place, reference)?;
+            self.add(alloc, number, reference, outcome)?;
         }
         Ok(())
     }
@@ -100,51 +82,61 @@ impl<'r> State<'r> {
         documents: &'r Documents<'r>,
         number: usize,
     ) -> Result<bool, AllocError> {
-        let Some(place) = self.reach.places.get(number) else {
+        let Some(place) = self.reached.places.get(number) else {
             return Ok(false);
         };
+        let place = place.again()?;
         let below = place.below(alloc)?;
-        let outcomes = outcomes_of(alloc, documents, place)?;
-        self.add_all(alloc, below)?;
+        self.reached.add_all(alloc, below)?;
         let number = documents.own.len().saturating_add(number);
-        self.add_outcomes(alloc, number, outcomes)?;
+        self.follow(alloc, documents, number, &place)?;
         Ok(true)
     }
 }
 
-// The references of a place, with what they are.
-fn outcomes_of<'r>(
-    alloc: Global,
-    documents: &'r Documents<'r>,
-    place: &Place<'r>,
-) -> Result<Vec<(Reference<'r>, Outcome<'r>)>, AllocError> {
-    let mut outcomes = Vec::new(alloc);
-    for reference in references(alloc, place.reading, place.value)? {
-        let outcome = outcome(alloc, documents, place, reference)?;
-        outcomes.push((reference, outcome))?;
+impl<'r> State<'r> {
+    // What was reached.
+    fn into_reached(self) -> Reached<'r> {
+        let State {
+            reached,
+            findings,
+            references,
+        } = self;
+        Reached {
+            places: reached.into_places(),
+            findings,
+            references,
+        }
     }
-    Ok(outcomes)
+}
+
+// What the references of own places lead to.
+fn from_own<'r>(alloc: Global, documents: &'r Documents<'r>) -> Result<State<'r>, AllocError> {
+    let mut state = State {
+        reached: Seen::new(alloc),
+        findings: Vec::new(alloc),
+        references: 0,
+    };
+    for number in 0..documents.own.len() {
+        let place = &documents.own[number];
+        state.follow(alloc, documents, number, place)?;
+    }
+    Ok(state)
 }
 
 /// What is reached from the descriptions among documents: the places that their references lead to, what is below these, what the
 /// references of these lead to, and so on. Each place is walked once; linear in the places, with a look-up for each reference.
-pub fn reach<'r>(alloc: Global, documents: &'r Documents<'r>) -> Result<Reach<'r>, AllocError> {
-    let mut state = State::new(alloc);
-    for (number, place) in documents.own.as_slice().iter().enumerate() {
-        let outcomes = outcomes_of(alloc, documents, place)?;
-        state.add_outcomes(alloc, number, outcomes)?;
-    }
+pub fn reach<'r>(alloc: Global, documents: &'r Documents<'r>) -> Result<Reached<'r>, AllocError> {
+    let mut state = from_own(alloc, documents)?;
     for number in 0..usize::MAX {
         if !state.visit(alloc, documents, number)? {
-            break;
+            return Ok(state.into_reached());
         }
     }
-    let State { reach, seen } = state;
-    drop(seen);
-    Ok(reach)
+    Err(AllocError)
 }
 
-impl<'r> Reach<'r> {
+impl<'r> Reached<'r> {
     /// The place with a number: first the own places of the documents' descriptions, and then those that are reached.
     pub fn place<'p>(
         &'p self,
