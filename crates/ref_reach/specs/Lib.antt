@@ -1,0 +1,5 @@
+pub mod Places
+pub mod Leading
+pub mod Views
+pub mod Knowing
+pub mod inner

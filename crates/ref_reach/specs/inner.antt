@@ -1,0 +1,3 @@
+-- What no public clause cites.
+pub mod Adding
+pub mod Saying

@@ -1,0 +1,22 @@
+//! What references lead to: the places of OpenAPI descriptions, those that references of these lead to, and so on, with what is wrong
+//! with the references.
+//!
+//! Read `specs/Places.antt` and `specs/Leading.antt` first, upon `Fields.antt`, `Below.antt` and `References.antt` of `ref_descriptions`.
+#![tactic(auto)]
+
+mod described;
+mod documents;
+mod finding;
+mod leading;
+mod mapped;
+mod own;
+mod place;
+mod reaching;
+mod seen;
+mod table;
+
+pub use described::Documents;
+pub use documents::{Source, documents_of};
+pub use finding::{Finding, Level, Problem};
+pub use place::Place;
+pub use reaching::{Reached, reach};
