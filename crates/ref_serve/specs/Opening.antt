@@ -109,12 +109,12 @@ number_given world uri =
     option_map_or (λ n. whole n)
     (option_and_then (λ u. last_value u [] (numbered_from 0 (local_documents world))) uri) null
 
--- the members of a result: the registry's number, the URIs of its own documents, and for each that was given its number
-abbrev pub opened_members : ℕ → World → List (List ℕ) → List (List ℕ × Data)
-opened_members number world given =
+-- the members of a result: the registry's number, the URIs of its own documents, and the numbers of those under given URIs
+abbrev pub opened_members : ℕ → World → List (Option (List ℕ)) → List (List ℕ × Data)
+opened_members number world uris =
     (codes "registry", whole number)
     ∷ (codes "documents", texts (map (λ d. d.uri) (local_documents world)))
-    ∷ (codes "given", list_of (map (number_given world) (map uri_given given))) ∷ []
+    ∷ (codes "given", list_of (map (number_given world) uris)) ∷ []
 
 -- What a registry is opened above: layers with the numbers of their registries; the registries that are open before it gets the
 -- next number; and the members of the result that describe one that is opened with it.
@@ -142,7 +142,8 @@ IsOpenedIn o below state next (Ok world) outcome =
     (outcome
     ≡ Ok
     (object_of
-    (opened_members (length below.registries) world (map (λ d. d.0) o.documents)
+    (opened_members (length below.registries) world
+    (map uri_given (map (λ d. d.0) o.documents))
     ++ below.members)))
     × (next ≡ below.registries ++ Some (world, below.layers.1) ∷ [])
 IsOpenedIn o below state next (Err fault) outcome =

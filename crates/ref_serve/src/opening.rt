@@ -210,9 +210,9 @@ fn put_opened(
     added: &Open,
     given: &[Option<Uri>],
 ) -> Result<(), AllocError>
-    ensures { (texts : List (List ℕ)) → map (option_map (λ u. u)) given.now ≡ map spec.uri_given texts
-        → OnOk result (members_view members.new.entries
-        ≡ with_all (spec.opened_members number added.now.0 texts)
+    ensures { OnOk result (members_view members.new.entries
+        ≡ with_all
+        (spec.opened_members number added.now.0 (map (option_map (λ u. u)) given.now))
         (members_view members.old.entries)) }
 {
     put_number(alloc, members, "registry", number)?;
@@ -229,9 +229,10 @@ fn open_one(
     added: Open,
     given: &[Option<Uri>],
 ) -> Result<Opened, AllocError>
-    ensures result { (texts : List (List ℕ))
-        → map (option_map (λ u. u)) given.now ≡ map spec.uri_given texts → IfOk result
-        (λ opened. view opened.result ≡ object_of (spec.opened_members number added.0 texts)) }
+    ensures result { IfOk result
+        (λ opened. view opened.result
+        ≡ object_of
+        (spec.opened_members number added.0 (map (option_map (λ u. u)) given.now))) }
     ensures one { IfOk result (λ opened. opened.registries.items ≡ Some added ∷ []) }
 {
     let mut members = Map::new(alloc);
@@ -253,9 +254,10 @@ fn open_both(
     given: &[Option<Uri>],
 ) -> Result<Opened, AllocError>
     requires next { number + 1 < 2 ^ 64 }
-    ensures result { (texts : List (List ℕ))
-        → map (option_map (λ u. u)) given.now ≡ map spec.uri_given texts → IfOk result
-        (λ opened. view opened.result ≡ object_of (spec.opened_members (number + 1) added.0 texts
+    ensures result { IfOk result
+        (λ opened. view opened.result
+        ≡ object_of
+        (spec.opened_members (number + 1) added.0 (map (option_map (λ u. u)) given.now)
         ++ (codes "parent", whole number) ∷ [])) }
     ensures both { IfOk result
         (λ opened. opened.registries.items ≡ Some parent ∷ Some added ∷ []) }

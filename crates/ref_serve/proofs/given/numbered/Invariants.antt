@@ -6,4 +6,4 @@ use Rattle.ref_serve.proofs.given.numbered.Given as goal
 
 abbrev pub invariant-loop-number : goal.invariant-loop-number
 invariant-loop-number l =
-    l.entries ++ numbered_from l.number (map document_of (drop l.number l.number-items)) ≡ numbered_from 0 (local_documents l.registry)
+    l.entries ++ numbered_from l.number (map document_of (drop l.number l.document-items)) ≡ numbered_from 0 (local_documents l.registry)

@@ -9,7 +9,7 @@ pub returns-in_err-parent : goal.returns-in_err-parent
 returns-in_err-parent c state number =
     let o = opening_view c.args.wanted in
     let documents = map given_of c.args.documents.items in
-    let same : c.from_residual.result ≡ Err c.in_err-parent.field-0.0 = search rules in
+    let same : c.from_residual-in_err-parent.result ≡ Err c.in_err-parent.field-0.0 = search rules in
     subst (GivesOpened (IsOpenedBy (AboveMetaSchemas documents) o state) state) (sym same) (no_meta state o documents c.in_err-parent.field-0.0 c.in_err-parent.ensures)
 
 pub returns-in_err-added : goal.returns-in_err-added
