@@ -25,11 +25,8 @@ pub fn meant_document(
         Some((front, fragment)) => (front, "#", fragment),
         None => (text, "", ""),
     };
-    for end in ENDS {
-        let longer = [uri, *end].join(alloc, "")?;
-        if resources.get(longer.as_str()).is_some() {
-            return Ok(Some([front, *end, hash, fragment].join(alloc, "")?));
-        }
+    if let Some(end) = missing_end(alloc, resources, uri)? {
+        return Ok(Some(format!(in alloc; "{front}{end}{hash}{fragment}")?));
     }
     let Some(close) = resources.close_uri(alloc, suggester, uri)? else {
         return Ok(None);
@@ -42,7 +39,22 @@ pub fn meant_document(
         Some(folder) => (folder, name),
         None => ("", close),
     };
-    Ok(Some([folder, name, hash, fragment].join(alloc, "")?))
+    Ok(Some(format!(in alloc; "{folder}{name}{hash}{fragment}")?))
+}
+
+// What a URI lacks at its end to be that of a document.
+fn missing_end(
+    alloc: Global,
+    resources: &Resources<'_>,
+    uri: &str,
+) -> Result<Option<&'static str>, AllocError> {
+    for end in ENDS {
+        let longer = format!(in alloc; "{uri}{end}")?;
+        if resources.get(longer.as_str()).is_some() {
+            return Ok(Some(*end));
+        }
+    }
+    Ok(None)
 }
 
 // Whether a URI is that of the document with a number.
