@@ -18,23 +18,30 @@ use std::borrow::CowStr;
 use std::collections::BTreeMap;
 use std::rc::Rc;
 
-/// The descriptions of a workspace, and the documents that are parts of them.
+/// Which documents of a workspace are descriptions or parts of them, and how much there is in these.
 #[derive(Drop)]
-pub(crate) struct Described<'d> {
-    /// What is wrong with their references.
-    pub findings: Vec<Finding<'d>>,
+pub(crate) struct Described {
     /// How many places they have.
     pub places: usize,
     /// How many references these have.
     pub references: usize,
-    /// How many of these places have a text under `$ref`, of documents that are asked about, each counted once.
-    pub placed: usize,
+    // How many of these places have a text under `$ref`, of documents that are asked about, each counted once.
+    placed: usize,
     /// By the numbers of the documents, whether one is a description, or a part that a reference leads to as a whole.
     pub is_described: Vec<bool>,
     // By these numbers, whether one has a place.
     has_place: Vec<bool>,
     /// How many of the documents that are asked about are descriptions.
     pub descriptions: usize,
+}
+
+// What is wrong with a reference in the document with a number, at a path.
+#[derive(Drop)]
+struct Fault<'d> {
+    document: usize,
+    path: Vec<JsonPointerSegment<'d>>,
+    keyword: String,
+    problem: ReachProblem,
 }
 
 /// A place of a description, or of a part of one.
@@ -97,48 +104,32 @@ fn numbered_sources<'d>(
     Ok(numbered)
 }
 
-impl<'d> Described<'d> {
-    // None.
-    fn new(alloc: Global, workspace: &Workspace) -> Result<Described<'d>, AllocError> {
-        Ok(Described {
-            findings: Vec::new(alloc),
+impl Described {
+    /// Those of a workspace, by their roots alone. Fails only if out of memory.
+    pub fn of(alloc: Global, workspace: &Workspace) -> Result<Described, AllocError> {
+        let is_described = vec![in alloc; false; workspace.len()]?;
+        let has_place = vec![in alloc; false; workspace.len()]?;
+        let mut described = Described {
             places: 0,
             references: 0,
             placed: 0,
-            is_described: vec![in alloc; false; workspace.len()]?,
-            has_place: vec![in alloc; false; workspace.len()]?,
+            is_described,
+            has_place,
             descriptions: 0,
-        })
-    }
-
-    /// Those of a workspace. Fails only if out of memory.
-    pub fn of(alloc: Global, workspace: &'d Workspace) -> Result<Described<'d>, AllocError> {
-        let mut described = Described::new(alloc, workspace)?;
-        if !described.note_descriptions(workspace) {
-            return Ok(described);
+        };
+        for number in 0..workspace.len() {
+            if workspace.value(number).is_some_and(is_description) {
+                described.note_description(number, workspace.asked());
+            }
         }
-        let numbered = numbered_sources(alloc, workspace)?;
-        let documents = documents_of(alloc, workspace.draft(), numbered.sources.as_slice())?;
-        let reached = reach(alloc, &documents)?;
-        let numbers = numbered.numbers.as_slice();
-        described.add(alloc, workspace, numbers, &documents, reached)?;
         Ok(described)
     }
 
-    // Notes which documents are descriptions, and returns whether one is.
-    fn note_descriptions(&mut self, workspace: &Workspace) -> bool {
-        let mut is_any = false;
-        for number in 0..workspace.len() {
-            if !workspace.value(number).is_some_and(is_description) {
-                continue;
-            }
-            is_any = true;
-            if number < workspace.asked() {
-                self.descriptions = self.descriptions.saturating_add(1);
-            }
-            self.note(number);
+    fn note_description(&mut self, number: usize, asked: usize) {
+        if number < asked {
+            self.descriptions = self.descriptions.saturating_add(1);
         }
-        is_any
+        self.note(number);
     }
 
     fn note(&mut self, number: usize) {
@@ -147,51 +138,52 @@ impl<'d> Described<'d> {
         }
     }
 
-    // Adds what references lead to, by the numbers of the documents that it knows.
-    fn add(
+    // Whether there is one.
+    fn is_any(&self) -> bool {
+        self.is_described.iter().any(|is| *is)
+    }
+
+    // By the numbers of the documents, whether one is a description or a part.
+    fn into_flags(self) -> Vec<bool> {
+        self.is_described
+    }
+
+    // Notes what was reached, by the numbers of the documents.
+    fn note_reached(
         &mut self,
         alloc: Global,
-        workspace: &'d Workspace,
+        asked: usize,
         numbers: &[usize],
-        documents: &Documents<'_>,
-        reached: Reached<'_>,
+        own: &[Place<'_>],
+        reached: &Reached<'_>,
     ) -> Result<(), AllocError> {
-        let Reached {
-            places,
-            findings,
-            references,
-        } = reached;
-        self.note_parts(numbers, documents.own());
-        self.note_parts(numbers, places.as_slice());
-        self.places = documents.own().len().saturating_add(places.len());
-        self.references = references;
+        self.note_parts(numbers, own);
+        self.note_parts(numbers, reached.places.as_slice());
+        self.places = own.len().saturating_add(reached.places.len());
+        self.references = reached.references;
         let mut seen = BTreeMap::new(alloc);
-        add_placed(
-            alloc,
-            &mut seen,
-            workspace.asked(),
-            numbers,
-            documents.own(),
-        )?;
-        add_placed(
-            alloc,
-            &mut seen,
-            workspace.asked(),
-            numbers,
-            places.as_slice(),
-        )?;
+        add_placed(alloc, &mut seen, asked, numbers, own)?;
+        add_placed(alloc, &mut seen, asked, numbers, reached.places.as_slice())?;
         self.placed = seen.len();
-        for found in findings {
-            let own = documents.own();
-            let place = match found.place.checked_sub(own.len()) {
-                Some(number) => places.get(number),
-                None => own.get(found.place),
-            };
-            if let Some(place) = place {
-                self.add_finding(alloc, workspace, numbers, place, found)?;
+        Ok(())
+    }
+
+    // Notes which documents have places, and which are parts that a reference leads to as a whole.
+    fn note_parts(&mut self, numbers: &[usize], places: &[Place<'_>]) {
+        for place in places {
+            if let Some(number) = numbers.get(place.document).copied() {
+                self.note_place(number, place.path.parent().is_none());
             }
         }
-        Ok(())
+    }
+
+    fn note_place(&mut self, number: usize, is_root: bool) {
+        if is_root {
+            self.note(number);
+        }
+        if let Some(has) = self.has_place.get_mut(number) {
+            *has = true;
+        }
     }
 
     /// How many texts are under a `$ref` that is in no place, in those documents that are asked about and have a place.
@@ -206,43 +198,178 @@ impl<'d> Described<'d> {
         }
         Ok(count.saturating_sub(self.placed))
     }
+}
 
-    // Notes which documents have places, and which are parts that a reference leads to as a whole.
-    fn note_parts(&mut self, numbers: &[usize], places: &[Place<'_>]) {
-        for place in places {
-            if let Some(number) = numbers.get(place.document).copied() {
-                if place.path.parent().is_none() {
-                    self.note(number);
-                }
-                if let Some(has) = self.has_place.get_mut(number) {
-                    *has = true;
-                }
-            }
+/// Adds what is wrong with the references of descriptions, and of what they lead to, in documents that are asked about; and notes how
+/// much there is. Fails only if out of memory.
+pub(crate) fn add_described<'d>(
+    alloc: Global,
+    workspace: &'d Workspace,
+    described: &mut Described,
+    list: &mut Vec<Finding<'d>>,
+) -> Result<(), AllocError> {
+    if !described.is_any() {
+        return Ok(());
+    }
+    for fault in faults_of(alloc, workspace, described)? {
+        add_fault(workspace, fault, list)?;
+    }
+    Ok(())
+}
+
+// What is wrong with the references of descriptions, in any document.
+fn faults_of<'d>(
+    alloc: Global,
+    workspace: &Workspace,
+    described: &mut Described,
+) -> Result<Vec<Fault<'d>>, AllocError> {
+    let numbered = numbered_sources(alloc, workspace)?;
+    faults_by(alloc, workspace, &numbered, described)
+}
+
+fn faults_by<'d>(
+    alloc: Global,
+    workspace: &Workspace,
+    numbered: &Numbered<'_>,
+    described: &mut Described,
+) -> Result<Vec<Fault<'d>>, AllocError> {
+    let documents = documents_of(alloc, workspace.draft(), numbered.sources.as_slice())?;
+    let documents = kept(alloc, documents)?;
+    let numbers = numbered.numbers.as_slice();
+    faults_among(alloc, workspace.asked(), numbers, documents, described)
+}
+
+// Keeps documents to the end of the program. What is reached in them has their own lifetime, which no borrow of a local one has here, so
+// that their index isn't given back.
+fn kept<'v>(alloc: Global, documents: Documents<'v>) -> Result<&'v Documents<'v>, AllocError> {
+    let mut list = Vec::new(alloc);
+    list.push(documents)?;
+    let list: &'v [Documents<'v>] = list.leak();
+    match list.first() {
+        Some(documents) => Ok(documents),
+        None => Err(AllocError),
+    }
+}
+
+fn faults_among<'d, 'r>(
+    alloc: Global,
+    asked: usize,
+    numbers: &[usize],
+    documents: &'r Documents<'r>,
+    described: &mut Described,
+) -> Result<Vec<Fault<'d>>, AllocError> {
+    let reached = reach(alloc, documents)?;
+    described.note_reached(alloc, asked, numbers, documents.own(), &reached)?;
+    faults_in(alloc, numbers, documents.own(), reached)
+}
+
+fn faults_in<'d, 'r>(
+    alloc: Global,
+    numbers: &[usize],
+    own: &[Place<'r>],
+    reached: Reached<'r>,
+) -> Result<Vec<Fault<'d>>, AllocError> {
+    let Reached {
+        places,
+        findings,
+        ..
+    } = reached;
+    let mut list = Vec::new(alloc);
+    for found in findings {
+        if let Some(place) = place_among(&*own, places.as_slice(), found.place) {
+            let number = numbers.get(place.document).copied().unwrap_or(usize::MAX);
+            let fault = fault_at(alloc, number, place, found)?;
+            push_fault(&mut list, fault)?;
         }
     }
+    Ok(list)
+}
 
-    // Adds a finding at a place, where its document is asked about.
-    fn add_finding(
-        &mut self,
-        alloc: Global,
-        workspace: &'d Workspace,
-        numbers: &[usize],
-        place: &Place<'_>,
-        found: ReachFinding<'_>,
-    ) -> Result<(), AllocError> {
-        let Some(number) = numbers.get(place.document).copied() else {
-            return Ok(());
-        };
-        if number >= workspace.asked() || is_unread(workspace, &found.problem) {
-            return Ok(());
-        }
-        match workspace.value(number) {
-            Some(root) => {
-                let finding = located(alloc, number, root, place, found)?;
-                push(&mut self.findings, finding)
-            }
-            None => Ok(()),
-        }
+// The place with a number: first those that descriptions have by themselves, and then those that are reached.
+fn place_among<'p, 'r>(
+    own: &'p [Place<'r>],
+    more: &'p [Place<'r>],
+    number: usize,
+) -> Option<&'p Place<'r>> {
+    match number.checked_sub(own.len()) {
+        Some(rest) => more.get(rest),
+        None => own.get(number),
+    }
+}
+
+// What is wrong with a reference of a place.
+fn fault_at<'d>(
+    alloc: Global,
+    document: usize,
+    place: &Place<'_>,
+    found: ReachFinding<'_>,
+) -> Result<Fault<'d>, AllocError> {
+    let ReachFinding {
+        under,
+        keyword,
+        problem,
+        ..
+    } = found;
+    let path = own_path(alloc, place, under)?;
+    let keyword = String::from_str(alloc, keyword)?;
+    Ok(Fault {
+        document,
+        path,
+        keyword,
+        problem,
+    })
+}
+
+fn push_fault<'d>(list: &mut Vec<Fault<'d>>, fault: Fault<'d>) -> Result<(), AllocError> {
+    list.push(fault)?;
+    Ok(())
+}
+
+// Adds the finding of a fault, where its document is asked about.
+fn add_fault<'d>(
+    workspace: &'d Workspace,
+    fault: Fault<'d>,
+    list: &mut Vec<Finding<'d>>,
+) -> Result<(), AllocError> {
+    if fault.document >= workspace.asked() || is_unread(workspace, &fault.problem) {
+        return Ok(());
+    }
+    match workspace.value(fault.document) {
+        Some(root) => push(list, finding_of(root, fault)),
+        None => Ok(()),
+    }
+}
+
+// A finding, with the keyword and the text of the document itself.
+fn finding_of<'d>(root: &'d Value, fault: Fault<'d>) -> Finding<'d> {
+    let Fault {
+        document,
+        path,
+        keyword,
+        problem,
+    } = fault;
+    let (own, text) = texts_at(root, path.as_slice(), keyword.as_str());
+    Finding {
+        source: document,
+        path,
+        keyword: own,
+        text,
+        problem: problem_of(problem),
+    }
+}
+
+// The key of a member of the value at a path, and its text.
+fn texts_at<'d>(
+    root: &'d Value,
+    path: &[JsonPointerSegment<'_>],
+    keyword: &str,
+) -> (Option<&'d str>, Option<&'d str>) {
+    let Some(value) = value_at(root, path) else {
+        return (None, None);
+    };
+    match member_of(value, keyword) {
+        Some((key, member)) => (Some(key), member.as_str()),
+        None => (None, None),
     }
 }
 
@@ -250,71 +377,125 @@ impl Workspace {
     /// The places of the descriptions among the documents, and of what their references lead to, with the references of these. Fails
     /// only if out of memory.
     pub fn description<'d>(&'d self, alloc: Global) -> Result<Description<'d>, AllocError> {
-        let mut described = Described::new(alloc, self)?;
+        let mut described = Described::of(alloc, self)?;
         let mut description = Description {
             places: Vec::new(alloc),
             references: Vec::new(alloc),
             is_described: Vec::new(alloc),
         };
-        if described.note_descriptions(self) {
-            let numbered = numbered_sources(alloc, self)?;
-            let documents = documents_of(alloc, self.draft(), numbered.sources.as_slice())?;
-            let reached = reach(alloc, &documents)?;
-            let numbers = numbered.numbers.as_slice();
-            for place in documents.own() {
-                description.add(alloc, self, numbers, place)?;
-            }
-            for place in &reached.places {
-                description.add(alloc, self, numbers, place)?;
-            }
-            described.note_parts(numbers, reached.places.as_slice());
+        if described.is_any() {
+            self.describe(alloc, &mut described, &mut description)?;
         }
-        description.is_described = described.is_described;
+        description.is_described = described.into_flags();
         Ok(description)
     }
-}
 
-impl Workspace {
+    fn describe<'d>(
+        &self,
+        alloc: Global,
+        described: &mut Described,
+        description: &mut Description<'d>,
+    ) -> Result<(), AllocError> {
+        let numbered = numbered_sources(alloc, self)?;
+        self.describe_by(alloc, &numbered, described, description)
+    }
+
+    fn describe_by<'d>(
+        &self,
+        alloc: Global,
+        numbered: &Numbered<'_>,
+        described: &mut Described,
+        description: &mut Description<'d>,
+    ) -> Result<(), AllocError> {
+        let documents = documents_of(alloc, self.draft(), numbered.sources.as_slice())?;
+        let documents = kept(alloc, documents)?;
+        let numbers = numbered.numbers.as_slice();
+        description.add_all(alloc, self, numbers, documents, described)
+    }
+
     /// The URIs of documents that references of descriptions lead into and that aren't there, in the order in which they are met; a URI may come
     /// more than once. Fails only if out of memory.
     pub fn missing_parts(&self, alloc: Global) -> Result<Vec<Uri>, AllocError> {
+        let mut described = Described::of(alloc, self)?;
         let mut uris = Vec::new(alloc);
-        if !Described::new(alloc, self)?.note_descriptions(self) {
+        if !described.is_any() {
             return Ok(uris);
         }
-        let numbered = numbered_sources(alloc, self)?;
-        let documents = documents_of(alloc, self.draft(), numbered.sources.as_slice())?;
-        for found in reach(alloc, &documents)?.findings {
-            if let ReachProblem::MissingDocument { uri } = &found.problem {
-                if !is_unread(self, &found.problem) {
-                    uris.push((**uri).clone()?)?;
-                }
-            }
+        for fault in faults_of(alloc, self, &mut described)? {
+            self.push_missing(&mut uris, &fault.problem)?;
         }
         Ok(uris)
+    }
+
+    // Adds the URI of a document that isn't there.
+    fn push_missing(&self, uris: &mut Vec<Uri>, problem: &ReachProblem) -> Result<(), AllocError> {
+        let ReachProblem::MissingDocument { uri } = problem else {
+            return Ok(());
+        };
+        if !is_unread(self, problem) {
+            let uri: &Uri = uri;
+            uris.push(uri.clone()?)?;
+        }
+        Ok(())
     }
 }
 
 impl<'d> Description<'d> {
-    // Adds a place and its references.
-    fn add(
+    // Adds the places that descriptions have by themselves, and then those that are reached.
+    fn add_all<'r>(
         &mut self,
         alloc: Global,
         workspace: &Workspace,
         numbers: &[usize],
+        documents: &'r Documents<'r>,
+        described: &mut Described,
+    ) -> Result<(), AllocError> {
+        let reached = reach(alloc, documents)?;
+        described.note_parts(numbers, reached.places.as_slice());
+        self.add_places(alloc, workspace, numbers, documents.own())?;
+        self.add_places(alloc, workspace, numbers, reached.places.as_slice())
+    }
+
+    fn add_places(
+        &mut self,
+        alloc: Global,
+        workspace: &Workspace,
+        numbers: &[usize],
+        places: &[Place<'_>],
+    ) -> Result<(), AllocError> {
+        for place in places {
+            if let Some(document) = numbers.get(place.document).copied() {
+                self.add_place(alloc, document, place)?;
+                self.add_references(alloc, document, workspace.value(document), place)?;
+            }
+        }
+        Ok(())
+    }
+
+    fn add_place(
+        &mut self,
+        alloc: Global,
+        document: usize,
         place: &Place<'_>,
     ) -> Result<(), AllocError> {
-        let Some(document) = numbers.get(place.document).copied() else {
-            return Ok(());
-        };
-        let root = workspace.value(document);
         let path = own_path(alloc, place, Under::Itself)?;
+        let base = place.base.clone()?;
         self.places.push(DescribedPlace {
             document,
             path,
             reading: place.reading,
-            base: place.base.clone()?,
+            base,
         })?;
+        Ok(())
+    }
+
+    fn add_references(
+        &mut self,
+        alloc: Global,
+        document: usize,
+        root: Option<&Value>,
+        place: &Place<'_>,
+    ) -> Result<(), AllocError> {
         for reference in references(alloc, place.reading, place.value)? {
             if let Some(text) = reference.text {
                 if !is_mapped_name(root, reference.under, text) {
@@ -399,31 +580,6 @@ fn problem_of<'d>(problem: ReachProblem) -> Problem<'d> {
         ReachProblem::Unchecked { uri } => Problem::Plain(SchemaProblem::Unchecked { uri }),
         ReachProblem::WrongKind { uri, is, wanted } => Problem::WrongKind { uri, is, wanted },
     }
-}
-
-// A finding at a place, with the path, the keyword and the text of the document itself.
-fn located<'d>(
-    alloc: Global,
-    number: usize,
-    root: &'d Value,
-    place: &Place<'_>,
-    found: ReachFinding<'_>,
-) -> Result<Finding<'d>, AllocError> {
-    let ReachFinding {
-        under,
-        keyword,
-        problem,
-        ..
-    } = found;
-    let path = own_path(alloc, place, under)?;
-    let member = value_at(root, path.as_slice()).and_then(|value| member_of(value, keyword));
-    Ok(Finding {
-        source: number,
-        path,
-        keyword: member.map(|member| member.0),
-        text: member.and_then(|member| member.1.as_str()),
-        problem: problem_of(problem),
-    })
 }
 
 // The member of an object that has a name, with its key.

@@ -8,7 +8,7 @@ ghost use Rattle.ref_workspace.specs.Open.{document_of, workspace_of};
 ghost use Rattle.ref_workspace.specs.Workspace as spec;
 ghost use Rattle.ref_workspace.specs.Workspace.{as_source};
 
-use crate::described::Described;
+use crate::described::{Described, add_described};
 use crate::finding::{Finding, Report, plain, push, push_all, push_plain};
 use crate::workspace::{Document, Workspace};
 use ref_draft::Draft;
@@ -100,48 +100,48 @@ impl Workspace {
         report(alloc, self.draft(), own.as_slice(), others.as_slice())
     }
 
-    // What is wrong with those documents that are asked about and aren't parts of descriptions, which references may still lead into.
-    // The numbers are those of the documents that are judged.
-    fn plain_report<'d>(
+    // Adds what is wrong with those documents that are asked about and aren't parts of descriptions, which references may still lead
+    // into. Returns how many references they have.
+    fn add_plain<'d>(
         &'d self,
         alloc: Global,
         is_described: &[bool],
-        numbers: &mut Vec<usize>,
-    ) -> Result<SchemaReport<'d>, AllocError> {
+        list: &mut Vec<Finding<'d>>,
+    ) -> Result<usize, AllocError> {
         let mut own = Vec::new(alloc);
+        let mut numbers = Vec::new(alloc);
         let mut others = Vec::new(alloc);
         for (number, document) in self.documents().iter().enumerate() {
-            let is_own = number < self.asked()
-                && !is_described.get(number).copied().unwrap_or(false);
-            if is_own {
-                push_number(numbers, number)?;
+            if number < self.asked() && !is_described.get(number).copied().unwrap_or(false) {
+                push_number(&mut numbers, number)?;
                 push_source(&mut own, document)?;
             } else {
                 push_source(&mut others, document)?;
             }
         }
         add_held(&mut others, self.held_documents())?;
-        report(alloc, self.draft(), own.as_slice(), others.as_slice())
+        let report = report(alloc, self.draft(), own.as_slice(), others.as_slice())?;
+        let references = report.references;
+        push_plain(list, report.findings, numbers.as_slice())?;
+        Ok(references)
     }
 
     /// What is wrong with the documents that are asked about, whatever they are, and what is to be noted; and after it which
     /// retrieved documents have no value, and which texts of them mean no URI. Fails only if out of memory.
     pub fn full_report<'d>(&'d self, alloc: Global) -> Result<Report<'d>, AllocError> {
-        let described = Described::of(alloc, self)?;
-        let mut numbers = Vec::new(alloc);
-        let plain = self.plain_report(alloc, described.is_described.as_slice(), &mut numbers)?;
-        let references = described.references.saturating_add(plain.references);
-        let (places, descriptions) = (described.places, described.descriptions);
-        let unplaced = described.unplaced(alloc, self)?;
+        let mut described = Described::of(alloc, self)?;
+        let mut more = Vec::new(alloc);
+        add_described(alloc, self, &mut described, &mut more)?;
         let mut findings = Vec::new(alloc);
-        push_plain(&mut findings, plain.findings, numbers.as_slice())?;
-        push_all(&mut findings, described.findings)?;
+        let references = self.add_plain(alloc, described.is_described.as_slice(), &mut findings)?;
+        push_all(&mut findings, more)?;
         self.add_faults(alloc, &mut findings)?;
+        let unplaced = described.unplaced(alloc, self)?;
         Ok(Report {
             findings,
-            references,
-            descriptions,
-            places,
+            references: references.saturating_add(described.references),
+            descriptions: described.descriptions,
+            places: described.places,
             unplaced,
         })
     }
