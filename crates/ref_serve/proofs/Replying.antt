@@ -14,36 +14,36 @@ use Rattle.ref_json.specs.Text.{tree_of}
 use Rattle.ref_calls.specs.Calls.{call_of}
 use Rattle.ref_calls.specs.Objects.{answer_of, IsLineOf}
 use Rattle.ref_serve.specs.inner.Giving.{Gives}
-use Rattle.ref_serve.specs.Answering.{IsResult, IsReply, IsReplyTo, IsAnswerTo, IsAnswer}
-use Rattle.ref_serve.specs.inner.Replies.{Replies, IsUnchanged, registries_after}
+use Rattle.ref_serve.specs.Answering.{IsReply, IsReplyTo, IsAnswerTo, IsAnswer}
+use Rattle.ref_serve.specs.inner.Replies.{Replies, IsRead, IsUnchanged, registries_after}
 
-as_reply : (call : Call) (state next : Registries) (d : Data) (outcome : Result Data Data) → (call ≡ Open → ⊥) → (call ≡ Close → ⊥) → IsUnchanged call state d next outcome → IsReply call state d next outcome
-as_reply Open state next d outcome other another given = absurd (other refl)
-as_reply Hello state next d outcome other another given = given
-as_reply Uri state next d outcome other another given = given
-as_reply DraftOf state next d outcome other another given = given
-as_reply Faults state next d outcome other another given = given
-as_reply Lookup state next d outcome other another given = given
-as_reply Recursive state next d outcome other another given = given
-as_reply Enter state next d outcome other another given = given
-as_reply Follow state next d outcome other another given = given
-as_reply Places state next d outcome other another given = given
-as_reply References state next d outcome other another given = given
-as_reply Dangling state next d outcome other another given = given
-as_reply Vocabularies state next d outcome other another given = given
-as_reply Bundle state next d outcome other another given = given
-as_reply Close state next d outcome other another given = absurd (another refl)
+as_reply : (call : Call) (state next : Registries) (d : Data) (outcome : Result Data Data) → (call ≡ Open → ⊥) → (call ≡ Close → ⊥) → (call ≡ Faults → ⊥) → IsUnchanged call state d next outcome → IsReply call state d next outcome
+as_reply Open state next d outcome other another third given = absurd (other refl)
+as_reply Hello state next d outcome other another third given = given
+as_reply Uri state next d outcome other another third given = given
+as_reply DraftOf state next d outcome other another third given = given
+as_reply Faults state next d outcome other another third given = absurd (third refl)
+as_reply Lookup state next d outcome other another third given = given
+as_reply Recursive state next d outcome other another third given = given
+as_reply Enter state next d outcome other another third given = given
+as_reply Follow state next d outcome other another third given = given
+as_reply Places state next d outcome other another third given = given
+as_reply References state next d outcome other another third given = given
+as_reply Dangling state next d outcome other another third given = given
+as_reply Vocabularies state next d outcome other another third given = given
+as_reply Bundle state next d outcome other another third given = given
+as_reply Close state next d outcome other another third given = absurd (another refl)
 
-pub replies : (call : Call) (state : Registries) (d : Data) (read : Result Call Data) (result : Result Reply (Stop Value)) → read ≡ Ok call → (call ≡ Open → ⊥) → (call ≡ Close → ⊥)
+pub replies : (call : Call) (state : Registries) (d : Data) (read : Result Call Data) (result : Result Reply (Stop Value)) → read ≡ Ok call → (call ≡ Open → ⊥) → (call ≡ Close → ⊥) → (call ≡ Faults → ⊥)
     → Replies (IsUnchanged call state d) state result → Replies (IsReplyTo read state d) state result
-replies call state d read (Ok reply) is other another given =
+replies call state d read (Ok reply) is other another third given =
     let next = registries_after state reply.opened.items reply.closed in
-    subst (λ r. IsReplyTo r state d next (Ok (view reply.result))) (sym is) (as_reply call state next d (Ok (view reply.result)) other another given)
-replies call state d read (Err Memory) is other another given = tt
-replies call state d read (Err (Because value)) is other another given =
-    subst (λ r. IsReplyTo r state d state (Err (view value))) (sym is) (as_reply call state state d (Err (view value)) other another given)
+    subst (λ r. IsReplyTo r state d next (Ok (view reply.result))) (sym is) (as_reply call state next d (Ok (view reply.result)) other another third given)
+replies call state d read (Err Memory) is other another third given = tt
+replies call state d read (Err (Because value)) is other another third given =
+    subst (λ r. IsReplyTo r state d state (Err (view value))) (sym is) (as_reply call state state d (Err (view value)) other another third given)
 
-pub stopped : (call : Call) (state : Registries) (d : Data) (stop : Stop Value) → Gives (IsResult call state d) (Err stop) → Replies (IsUnchanged call state d) state (Err stop)
+pub stopped : (call : Call) (state : Registries) (d : Data) (stop : Stop Value) → Gives (IsRead call state d) (Err stop) → Replies (IsUnchanged call state d) state (Err stop)
 stopped call state d Memory given = tt
 stopped call state d (Because value) given = (given, refl)
 

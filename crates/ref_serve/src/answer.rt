@@ -7,7 +7,7 @@ ghost use Rattle.ref_calls.specs.Calls.{call_of};
 ghost use Rattle.ref_calls.specs.declared.call.Call.TheVariants.{Faults};
 ghost use Rattle.ref_serve.specs.Answering as spec;
 ghost use Rattle.ref_serve.specs.inner.Giving.{Gives};
-ghost use Rattle.ref_serve.specs.inner.Replies.{registries_after, Replies, IsUnchanged};
+ghost use Rattle.ref_serve.specs.inner.Replies.{registries_after, Replies, IsRead, IsUnchanged};
 
 use crate::about::{draft, hello, uri};
 use crate::bundling::bundle_document;
@@ -141,7 +141,7 @@ fn reply_to(alloc: Global, state: &mut State, tree: Value) -> Result<Reply, Stop
 
 // The reply to `faults`, which changes no registry and takes the documents out of the call.
 fn faulty(alloc: Global, state: &State, tree: Value) -> Result<Reply, Stop<Value>>
-    ensures { Replies (IsUnchanged Faults state.now (view tree)) state.now result }
+    ensures { Replies (spec.IsReply Faults state.now (view tree)) state.now result }
 {
     match faults(alloc, tree) {
         Ok(result) => Ok(Reply {
@@ -153,7 +153,7 @@ fn faulty(alloc: Global, state: &State, tree: Value) -> Result<Reply, Stop<Value
     }
 }
 
-// The reply to a call that changes no registry.
+// The reply to a call that changes no registry and is only read.
 fn unchanged(alloc: Global, state: &State, call: Call, tree: &Value) -> Result<Reply, Stop<Value>>
     ensures { Replies (IsUnchanged call state.now (view tree.now)) state.now result }
 {
@@ -167,9 +167,9 @@ fn unchanged(alloc: Global, state: &State, call: Call, tree: &Value) -> Result<R
     }
 }
 
-// The result of a call that changes no registry.
+// The result of a call that changes no registry and is only read.
 fn result_of(alloc: Global, state: &State, call: Call, tree: &Value) -> Result<Value, Stop<Value>>
-    ensures { Gives (spec.IsResult call state.now (view tree.now)) result }
+    ensures { Gives (IsRead call state.now (view tree.now)) result }
 {
     match call {
         Call::Hello => Ok(hello(alloc)?),

@@ -7,6 +7,7 @@ use Rattle.ref_json.specs.declared.stop.Stop.{Stop}
 use Rattle.ref_json.specs.declared.stop.Stop.TheVariants.{Memory, Because}
 use Rattle.ref_serve.specs.declared.answer.Reply.{Reply}
 use Rattle.ref_calls.specs.declared.call.Call.{Call}
+use Rattle.ref_calls.specs.declared.call.Call.TheVariants.{Faults}
 use Rattle.ref_serve.specs.Answering.{IsResult}
 use Rattle.ref_serve.specs.State.{OpenRegistry, Registries, without_registry}
 
@@ -26,6 +27,11 @@ Replies may state (Ok reply) =
 Replies may state (Err Memory) = Unit {0}
 Replies may state (Err (Because value)) = may state (Err (view value))
 
--- the result of a call that changes no registry
+-- the result of a call that changes no registry and is only read: `faults` takes documents out
+abbrev pub IsRead : Call → Registries → Data → Result Data Data → Type 0
+IsRead Faults state d outcome = Unit {0}
+IsRead call state d outcome = IsResult call state d outcome
+
+-- the same, and the registries are as before
 abbrev pub IsUnchanged : Call → Registries → Data → Registries → Result Data Data → Type 0
-IsUnchanged call state d next outcome = IsResult call state d outcome × (next ≡ state)
+IsUnchanged call state d next outcome = IsRead call state d outcome × (next ≡ state)
