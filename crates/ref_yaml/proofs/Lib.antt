@@ -1,2 +1,5 @@
 pub mod LineFeeds
 pub mod Texts
+pub mod Trees
+pub mod Numbers
+pub mod OneLine

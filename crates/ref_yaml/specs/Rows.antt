@@ -62,3 +62,55 @@ folded_lines = codes "\n folded\n line\n\n next\n line\n   * bullet\n\n   * list
 
 abbrev pub folded_lines_text : List ℕ
 folded_lines_text = codes "\nfolded line\nnext line\n  * bullet\n\n  * list\n  * lines\n\nlast line\n"
+
+-- 10.9, and others by 10.3.2
+abbrev pub octal : List ℕ
+octal = codes "0o17"
+
+abbrev pub hexadecimal : List ℕ
+hexadecimal = codes "0x3A"
+
+abbrev pub negative : List ℕ
+negative = codes "-19"
+
+abbrev pub with_plus : List ℕ
+with_plus = codes "+12"
+
+abbrev pub with_zeros : List ℕ
+with_zeros = codes "012"
+
+abbrev pub point_last : List ℕ
+point_last = codes "5."
+
+abbrev pub point_last_json : List ℕ
+point_last_json = codes "5.0"
+
+abbrev pub point_first : List ℕ
+point_first = codes "-.5"
+
+abbrev pub point_first_json : List ℕ
+point_first_json = codes "-0.5"
+
+abbrev pub with_exponent : List ℕ
+with_exponent = codes "+12e03"
+
+abbrev pub with_exponent_json : List ℕ
+with_exponent_json = codes "12e03"
+
+abbrev pub infinite : List ℕ
+infinite = codes "-.Inf"
+
+abbrev pub no_number : List ℕ
+no_number = codes ".NAN"
+
+abbrev pub no_octal : List ℕ
+no_octal = codes "0o18"
+
+abbrev pub no_decimal : List ℕ
+no_decimal = codes "1_000"
+
+abbrev pub date : List ℕ
+date = codes "2020-01-01"
+
+abbrev pub off : List ℕ
+off = codes "off"

@@ -1,10 +1,13 @@
 //! The value that events are.
-ghost use Rattle.std.specs.Prelude.{◌≡◌, true, IfOk, IfSome};
-ghost use Rattle.std.specs.List.{slice_get};
-ghost use Rattle.serde_json.specs.View.{view};
-ghost use Rattle.ref_yaml.specs.Values.{IsOfKind, is_array, is_object};
+ghost use Rattle.std.specs.Prelude.{◌≡◌, false, ◌+◌, ◌≤◌, ◌∷◌, ◌++◌, [], ℕ, List, IfOk, OnOk, IsTrue, drop, map, string_bytes, is_some};
+ghost use Rattle.serde_json.specs.Data.{Items, Members, array, object, put as with_member, depth as nesting, items_depth, members_depth};
+ghost use Rattle.serde_json.specs.Find.{get_member};
+ghost use Rattle.serde_json.specs.View.{view, items_view, members_view};
+ghost use Rattle.ref_yaml.specs.Values.{IsValue, AreMembers, IsScalar, IsText, fits as fits_tag, is_text as is_text_of};
+ghost use Rattle.ref_yaml.specs.declared.event.Event.{Event as event_type};
+ghost use Rattle.ref_yaml.specs.declared.event.Kind.TheVariants.{BeginArray, BeginObject};
 
-use crate::core_schema::{fits, fits_list, plain_value};
+use crate::core_schema::{fits, fits_array, fits_object, plain_value};
 use crate::event::{Event, Kind, Tag};
 use crate::fault::{Fault, Stop};
 use crate::text::text_of;
@@ -18,30 +21,44 @@ pub(crate) struct Builder<'a> {
     pub(crate) events: &'a [Event],
 }
 
-fn push(items: &mut Vec<Value>, value: Value) -> Result<(), AllocError> {
+fn push(items: &mut Vec<Value>, value: Value) -> Result<(), AllocError>
+    ensures value { OnOk result
+        (map view items.new.items ≡ map view items.old.items ++ view value ∷ []) }
+{
     items.push(value)?;
     Ok(())
 }
 
-fn insert(members: &mut Map<String, Value>, name: String, value: Value) -> Result<(), AllocError> {
+fn insert(members: &mut Map<String, Value>, name: String, value: Value) -> Result<(), AllocError>
+    ensures value { OnOk result (members_view members.new.entries
+        ≡ with_member (string_bytes name) (view value) (members_view members.old.entries)) }
+{
     members.insert(name, value)?;
     Ok(())
 }
 
+fn has(members: &Map<String, Value>, name: &str) -> bool
+    ensures value { result ≡ is_some (get_member name.now (members_view members.now.entries)) }
+{
+    members.contains_key(name)
+}
+
 fn array_of(items: Vec<Value>) -> Value
-    ensures kind { is_array (view result) ≡ true }
+    ensures value { view result ≡ array (items_view items.items) }
 {
     Value::Array(items)
 }
 
 fn object_of(members: Map<String, Value>) -> Value
-    ensures kind { is_object (view result) ≡ true }
+    ensures value { view result ≡ object (members_view members.entries) }
 {
     Value::Object(members)
 }
 
 // Whether a scalar is a text, whatever it says.
-fn is_text(event: &Event) -> bool {
+fn is_text(event: &Event) -> bool
+    ensures value { result ≡ is_text_of event.now.tag event.now.kind }
+{
     match event.tag {
         Tag::None => event.kind != Kind::Plain,
         Tag::Text | Tag::Any => true,
@@ -50,42 +67,77 @@ fn is_text(event: &Event) -> bool {
 }
 
 impl Builder<'_> {
-    fn event(&self, index: usize) -> Event
-        ensures value { IfSome (slice_get self.now.events.now index) (λ e. result ≡ e) }
+    // The event at an index, which goes on after it.
+    fn next(&self, at: &mut usize) -> Result<Event, Stop>
+        ensures value { IfOk result
+            (λ e. drop at.old self.now.events.now ≡ e ∷ drop at.new self.now.events.now) }
     {
-        match self.events.get(index) {
-            Some(event) => *event,
-            None => Event::empty(0),
+        match self.events.get(*at) {
+            Some(event) => {
+                *at += 1;
+                Ok(*event)
+            }
+            None => Err(Stop::At(Fault::Offsets, 0)),
         }
     }
 
-    // The index after a value.
-    fn after(&self, index: usize) -> usize {
-        let event = self.event(index);
-        let last = if event.is_leaf() { index } else { event.link };
-        last.saturating_add(1)
+    fn is_at(&self, at: usize, kind: Kind) -> bool {
+        match self.events.get(at) {
+            Some(event) => event.kind == kind,
+            None => false,
+        }
     }
 
-    /// The value that begins at an index, nested at most `depth` deep.
-    #[cycle(value)]
-    pub(crate) fn value(&self, index: usize, depth: usize) -> Result<Value, Stop>
-        ensures kind { IfOk result (λ v. IfSome (slice_get self.now.events.now index)
-            (λ e. IsOfKind e (view v))) }
+    // Passes the end of a list or an object.
+    fn end(&self, at: &mut usize, kind: Kind) -> Result<(), Stop>
+        ensures value { OnOk result ((e : event_type) × (e.kind ≡ kind)
+            × (drop at.old self.now.events.now ≡ e ∷ drop at.new self.now.events.now)) }
     {
-        let event = self.event(index);
+        let event = self.next(at)?;
+        if event.kind != kind {
+            return Err(Stop::At(Fault::Offsets, event.start));
+        }
+        Ok(())
+    }
+
+    /// The value that begins at an index, which goes on after it, nested at most `depth` deep.
+    #[cycle(value)]
+    pub(crate) fn value(&self, at: &mut usize, depth: usize) -> Result<Value, Stop>
+        ensures tree { IfOk result (λ v. IsValue self.now.text.now
+            (drop at.old self.now.events.now) (view v) (drop at.new self.now.events.now)) }
+        ensures depth { IfOk result (λ v. nesting (view v) ≤ depth) }
+    {
+        let event = self.next(at)?;
+        if event.is_key {
+            return Err(Stop::At(Fault::Offsets, event.start));
+        }
         match event.kind {
             Kind::BeginArray | Kind::BeginObject if depth == 0 => {
                 Err(Stop::At(Fault::Depth, event.start))
             }
-            Kind::BeginArray => self.array(index, depth - 1),
-            Kind::BeginObject => self.object(index, depth - 1),
+            Kind::BeginArray => self.array(&event, at, depth - 1),
+            Kind::BeginObject => self.object(&event, at, depth - 1),
             _ => self.scalar(&event),
         }
     }
 
+    // The text of a key or a scalar.
+    fn text(&self, event: &Event) -> Result<String, Stop>
+        ensures value { IfOk result (λ s. IsText self.now.text.now event.now (string_bytes s)) }
+    {
+        if !event.is_scalar() {
+            return Err(Stop::At(Fault::Offsets, event.start));
+        }
+        text_of(self.alloc, self.text, event)
+    }
+
     // The value of a scalar: a text where it is quoted or its tag asks for one.
-    fn scalar(&self, event: &Event) -> Result<Value, Stop> {
-        let text = text_of(self.alloc, self.text, event)?;
+    fn scalar(&self, event: &Event) -> Result<Value, Stop>
+        ensures value { IfOk result (λ v. IsScalar self.now.text.now event.now (view v)) }
+        ensures fits { IfOk result (λ v. IsTrue (fits_tag event.now.tag (view v))) }
+        ensures depth { IfOk result (λ v. nesting (view v) ≡ 0) }
+    {
+        let text = self.text(event)?;
         if is_text(event) {
             return Ok(Value::String(text));
         }
@@ -97,53 +149,71 @@ impl Builder<'_> {
     }
 
     #[cycle(value)]
-    fn array(&self, index: usize, depth: usize) -> Result<Value, Stop>
-        ensures kind { IfOk result (λ v. is_array (view v) ≡ true) }
+    fn array(&self, begin: &Event, at: &mut usize, depth: usize) -> Result<Value, Stop>
+        ensures tree { IfOk result (λ v. begin.now.is_key ≡ false → begin.now.kind ≡ BeginArray → IsValue self.now.text.now
+            (begin.now ∷ drop at.old self.now.events.now) (view v)
+            (drop at.new self.now.events.now)) }
+        ensures depth { IfOk result (λ v. nesting (view v) ≤ depth + 1) }
     {
-        let event = self.event(index);
-        if !fits_list(&event, Tag::Array) {
-            return Err(Stop::At(Fault::Tag, event.start));
+        if !fits_array(begin.tag) {
+            return Err(Stop::At(Fault::Tag, begin.start));
         }
         let mut items = Vec::new(self.alloc);
-        let mut at = index.saturating_add(1);
         for _ in 0..self.events.len() {
-            if at >= event.link {
+            if self.is_at(*at, Kind::EndArray) {
                 break;
             }
             let value = self.value(at, depth)?;
             push(&mut items, value)?;
-            at = self.after(at);
         }
+        self.end(at, Kind::EndArray)?;
         Ok(array_of(items))
     }
 
     #[cycle(value)]
-    fn object(&self, index: usize, depth: usize) -> Result<Value, Stop>
-        ensures kind { IfOk result (λ v. is_object (view v) ≡ true) }
+    fn object(&self, begin: &Event, at: &mut usize, depth: usize) -> Result<Value, Stop>
+        ensures tree { IfOk result (λ v. begin.now.is_key ≡ false → begin.now.kind ≡ BeginObject → IsValue self.now.text.now
+            (begin.now ∷ drop at.old self.now.events.now) (view v)
+            (drop at.new self.now.events.now)) }
+        ensures depth { IfOk result (λ v. nesting (view v) ≤ depth + 1) }
     {
-        let event = self.event(index);
-        if !fits_list(&event, Tag::Object) {
-            return Err(Stop::At(Fault::Tag, event.start));
+        if !fits_object(begin.tag) {
+            return Err(Stop::At(Fault::Tag, begin.start));
         }
         let mut members = Map::new(self.alloc);
-        let mut at = index.saturating_add(1);
         for _ in 0..self.events.len() {
-            if at >= event.link {
+            if self.is_at(*at, Kind::EndObject) {
                 break;
             }
-            let key = self.event(at);
-            let after = self.after(at);
-            let value = self.value(after, depth)?;
-            self.put(&mut members, &key, value)?;
-            at = self.after(after);
+            self.member(at, &mut members, depth)?;
         }
+        self.end(at, Kind::EndObject)?;
         Ok(object_of(members))
     }
 
     // Adds a member whose key isn't there yet.
-    fn put(&self, members: &mut Map<String, Value>, key: &Event, value: Value) -> Result<(), Stop> {
-        let name = text_of(self.alloc, self.text, key)?;
-        if members.contains_key(name.as_str()) {
+    #[cycle(value)]
+    fn member(
+        &self,
+        at: &mut usize,
+        members: &mut Map<String, Value>,
+        depth: usize,
+    ) -> Result<(), Stop>
+        ensures tree { OnOk result ((es : List event_type)
+            → AreMembers self.now.text.now es (members_view members.old.entries)
+            (drop at.old self.now.events.now)
+            → AreMembers self.now.text.now es (members_view members.new.entries)
+            (drop at.new self.now.events.now)) }
+        ensures depth { OnOk result (members_depth (members_view members.old.entries) ≤ depth
+            → members_depth (members_view members.new.entries) ≤ depth) }
+    {
+        let key = self.next(at)?;
+        if !key.is_key {
+            return Err(Stop::At(Fault::Offsets, key.start));
+        }
+        let value = self.value(at, depth)?;
+        let name = self.text(&key)?;
+        if has(members, name.as_str()) {
             return Err(Stop::At(Fault::SameKey, key.start));
         }
         Ok(insert(members, name, value)?)

@@ -1,9 +1,9 @@
 //! A text of one document.
-ghost use Rattle.std.specs.Prelude.{◌≡◌, ◌+◌, ◌-◌, Some, All, IfOk, IfErr, IfSome, length, string_bytes, ◌<◌};
-ghost use Rattle.std.specs.List.{slice_get};
+ghost use Rattle.std.specs.Prelude.{◌≡◌, ◌+◌, ◌-◌, ◌≤◌, Some, All, IfOk, IfErr, List, [], length, string_bytes, ◌<◌};
+ghost use Rattle.serde_json.specs.Data.{depth};
 ghost use Rattle.serde_json.specs.View.{view};
-ghost use Rattle.ref_yaml.specs.Values.{IsOfKind};
-ghost use Rattle.ref_yaml.specs.Events.{IsWithin, IsStopWithin};
+ghost use Rattle.ref_yaml.specs.Values.{IsValue, IsYamlOf};
+ghost use Rattle.ref_yaml.specs.Events.{IsWithin, IsInPlace, IsStopWithin, are_apart, most_events};
 ghost use Rattle.ref_yaml.specs.Scalars as spec;
 ghost use Rattle.ref_yaml.specs.declared.event.Kind.TheVariants.{Plain, SingleQuoted, DoubleQuoted, Literal, Folded};
 
@@ -11,7 +11,7 @@ use crate::block::Place;
 use crate::build::Builder;
 use crate::bytes::{after_white, control_in, is_blank, line_end, peek, word_end};
 use crate::cursor::Cursor;
-use crate::event::{Event, are_within};
+use crate::event::{Event, are_in_order, are_in_place, are_within, events_of};
 use crate::expand::expand;
 use crate::fault::{Fault, Leniency, Stop};
 use crate::links::link;
@@ -26,8 +26,12 @@ pub struct Document<'t> {
     text: &'t str,
     events: Vec<Event>,
     leniencies: Vec<Leniency>,
+    is_in_order: bool,
+    ghost order: { is_in_order ≡ are_apart 0 events.items },
+    ghost in_place: { All (IsInPlace text.now) events.items },
     ghost within: { All (IsWithin (length text.now)) events.items },
     ghost some: { 0 < length events.items },
+    ghost bound: { length events.items ≤ most_events (length text.now) },
 }
 
 /// The value of a text of one document of YAML 1.2.2. An empty one is null.
@@ -36,6 +40,8 @@ pub struct Document<'t> {
 /// is wrong and its offset in bytes. Linear in the text, but for aliases: they may make ten parts for each byte, and a
 /// million at least, each of eight bytes of text at most.
 pub fn from_str(alloc: Global, text: &str) -> Result<Value, Stop>
+    ensures tree { IfOk result (λ v. IsYamlOf text.now (view v)) }
+    ensures depth { IfOk result (λ v. depth (view v) ≤ 127) }
     ensures fault { IfErr result (λ stop. IsStopWithin (length text.now) stop) }
 {
     match Document::parse(alloc, text) {
@@ -83,36 +89,54 @@ impl<'t> Document<'t> {
         } = parser;
         if has_links {
             let expanded = expanded(alloc, text, events)?;
-            return Document::checked(text, expanded, leniencies);
+            return Document::checked(text, expanded, leniencies, false);
         }
-        Document::checked(text, events, leniencies)
+        Document::checked(text, events, leniencies, true)
     }
 
-    // A document whose offsets are looked at once more.
+    // A document whose offsets are looked at once more, and how many events it has: without aliases they are fewer than ten for each byte, and in order.
     fn checked(
         text: &'t str,
         events: Vec<Event>,
         leniencies: Vec<Leniency>,
+        is_ordered: bool,
     ) -> Result<Document<'t>, Stop>
         ensures text { IfOk result (λ document. document.text.now ≡ text.now) }
     {
-        if events.is_empty() || !are_within(events.as_slice(), text.len()) {
+        let is_bounded = !events.is_empty() && events.len() <= events_of(text.len());
+        if !is_bounded || !are_within(events.as_slice(), text.len()) {
+            return Err(Stop::At(Fault::Offsets, 0));
+        }
+        let is_in_order = are_in_order(events.as_slice());
+        if !are_in_place(text.as_bytes(), events.as_slice()) || (is_ordered && !is_in_order) {
             return Err(Stop::At(Fault::Offsets, 0));
         }
         Ok(Document {
             text,
             events,
             leniencies,
+            is_in_order,
         })
     }
 
     /// Its events, in the order of the text, with those of what an alias means in its place. Their offsets are within the
-    /// text. It has one value: a scalar, or all from a beginning to its end.
+    /// text. It has one value: a scalar, or all from a beginning to its end. They are ten for each byte of the text at most,
+    /// or a million where that is more.
     pub fn events(&self) -> &[Event]
         ensures within { All (IsWithin (length self.now.text.now)) result.now }
+        ensures in_place { All (IsInPlace self.now.text.now) result.now }
         ensures some { 0 < length result.now }
+        ensures bound { length result.now ≤ most_events (length self.now.text.now) }
     {
         self.events.as_slice()
+    }
+
+    /// Whether each event that has bytes begins after the end of those before it. It is so where neither an alias nor `<<` brings
+    /// events elsewhere.
+    pub fn is_in_order(&self) -> bool
+        ensures order { result ≡ are_apart 0 self.now.events.items }
+    {
+        self.is_in_order
     }
 
     /// What was read though YAML 1.2 doesn't have it.
@@ -140,8 +164,8 @@ impl<'t> Document<'t> {
     /// Its value, by the core schema (10.3.2). An error is memory; a key that comes twice in an object; a number that JSON
     /// doesn't have; an escape that there isn't; or a tag that its value doesn't fit. Linear in the events and their texts.
     pub fn value(&self, alloc: Global) -> Result<Value, Stop>
-        ensures kind { IfOk result (λ v. IfSome (slice_get self.now.events.items 0)
-            (λ e. IsOfKind e (view v))) }
+        ensures tree { IfOk result (λ v. IsValue self.now.text.now self.now.events.items (view v) []) }
+        ensures depth { IfOk result (λ v. depth (view v) ≤ 127) }
         ensures fault { IfErr result (λ stop. IsStopWithin (length self.now.text.now) stop) }
     {
         let builder = Builder {
@@ -149,8 +173,10 @@ impl<'t> Document<'t> {
             text: self.text,
             events: self.events.as_slice(),
         };
-        match builder.value(0, 127) {
-            Ok(value) => Ok(value),
+        let mut at = 0;
+        match builder.value(&mut at, 127) {
+            Ok(value) if at >= self.events.len() => Ok(value),
+            Ok(_) => Err(Stop::At(Fault::Offsets, 0)),
             Err(stop) => Err(stop.within(self.text.len())),
         }
     }
@@ -185,7 +211,7 @@ impl Parser<'_> {
 
     // Passes a directive `%YAML`, and returns whether there is one.
     fn directive(&mut self) -> Result<bool, Stop> {
-        if self.byte() != b'%' || !self.here.is_first {
+        if self.byte() != b'%' || self.here.at != self.here.line {
             return Ok(false);
         }
         let start = self.here.at;
@@ -201,28 +227,45 @@ impl Parser<'_> {
         Ok(true)
     }
 
-    // Whether nothing but the end of the document is left.
+    // Whether nothing but ends of the document is left (9.1.2, 9.2).
     fn end_of_stream(&mut self) -> Result<(), Stop> {
         if self.is_at_end() {
             return Ok(());
         }
-        if !self.here.is_first || !self.here.is_marker(self.text) {
-            if self.here.is_first && self.here.has_tab {
-                return self.fault(Fault::Tab);
+        if !self.is_document_end() {
+            return self.no_end();
+        }
+        for _ in 0..self.text.len() {
+            if !self.is_document_end() {
+                break;
             }
-            return self.fault(Fault::After);
-        }
-        if self.byte() == b'-' {
-            return self.fault(Fault::Document);
-        }
-        let next = self.here.at.saturating_add(3);
-        self.advance(next);
-        if !self.is_line_over() {
-            return self.fault(Fault::After);
+            let next = self.here.at.saturating_add(3);
+            self.advance(next);
+            if !self.is_line_over() {
+                return self.fault(Fault::After);
+            }
         }
         if self.is_at_end() {
             return Ok(());
         }
         self.fault(Fault::Document)
+    }
+
+    fn is_document_end(&self) -> bool {
+        self.byte() == b'.' && self.here.is_first && self.here.is_marker(self.text)
+    }
+
+    // What is wrong where something else is after the document.
+    fn no_end(&self) -> Result<(), Stop> {
+        if !self.here.is_first {
+            return self.fault(Fault::After);
+        }
+        if self.here.is_marker(self.text) {
+            return self.fault(Fault::Document);
+        }
+        if self.here.has_tab {
+            return self.fault(Fault::Tab);
+        }
+        self.fault(Fault::After)
     }
 }

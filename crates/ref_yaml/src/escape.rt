@@ -213,7 +213,7 @@ fn pass_byte(out: &mut Vec<u8>, reading: &Reading, byte: u8) -> Result<Option<Re
 pub(crate) fn unescaped(alloc: Global, source: &[u8]) -> Result<Option<Vec<u8>>, AllocError>
     ensures value { IfOk result (λ o. option_map (λ v. v.items) o ≡ unescaped source.now) }
 {
-    let mut out = Vec::new(alloc);
+    let mut out = Vec::with_capacity(alloc, source.len())?;
     let mut reading = Reading {
         after: false,
         left: 0,

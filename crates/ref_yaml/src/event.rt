@@ -1,6 +1,8 @@
 //! What a text has, in its order.
-ghost use Rattle.std.specs.Prelude.{◌↔◌, IsTrue, All};
-ghost use Rattle.ref_yaml.specs.Events.{IsWithin};
+ghost use Rattle.std.specs.Prelude.{◌≡◌, ◌≤◌, ◌↔◌, IsTrue, All};
+ghost use Rattle.ref_yaml.specs.Events.{IsWithin, IsInPlace, are_apart, has_ends, is_space, most_events, is_scalar as is_scalar_kind};
+
+use crate::number::byte_at;
 
 /// A part of a text: a scalar, an alias, or the beginning or the end of a list or an object. In an object each key is
 /// followed by its value.
@@ -99,10 +101,26 @@ impl Event {
         )
     }
 
+    pub(crate) fn is_scalar(&self) -> bool
+        ensures value { result ≡ is_scalar_kind self.now.kind }
+    {
+        matches!(
+            self.kind,
+            Kind::Plain | Kind::SingleQuoted | Kind::DoubleQuoted | Kind::Literal | Kind::Folded
+        )
+    }
+
     // Whether a colon after it needs no space (7.4.2).
     pub(crate) fn is_like_json(&self) -> bool {
         !matches!(self.kind, Kind::Plain | Kind::Alias)
     }
+}
+
+// How many events a text of so many bytes may have.
+pub(crate) fn events_of(len: usize) -> usize
+    ensures value { result ≤ most_events len }
+{
+    len.saturating_mul(10).max(1_000_000)
 }
 
 // Whether the offsets of events are within a text of so many bytes.
@@ -112,4 +130,59 @@ pub(crate) fn are_within(events: &[Event], len: usize) -> bool
     events
         .iter()
         .all(|event| event.start <= event.end && event.end <= len)
+}
+
+fn is_space(byte: u8) -> bool
+    ensures value { result ≡ is_space byte }
+{
+    matches!(byte, b' ' | b'\t' | b'\n' | b'\r')
+}
+
+// Whether an event may have these as its first and its last byte.
+fn has_ends(kind: Kind, first: u8, last: u8) -> bool
+    ensures value { result ≡ has_ends kind first last }
+{
+    match kind {
+        Kind::SingleQuoted => first == b'\'' && last == b'\'',
+        Kind::DoubleQuoted => first == b'"' && last == b'"',
+        Kind::Literal => first == b'|',
+        Kind::Folded => first == b'>',
+        Kind::Plain => !is_space(first) && !is_space(last),
+        Kind::EndArray => first == b']',
+        Kind::EndObject => first == b'}',
+        _ => true,
+    }
+}
+
+// Whether an event begins at its first byte and ends after its last one.
+fn is_in_place(text: &[u8], event: &Event) -> bool
+    ensures value { IsTrue result ↔ IsInPlace text.now event.now }
+{
+    if event.start >= event.end {
+        return true;
+    }
+    let last = event.end - 1;
+    has_ends(event.kind, byte_at(text, event.start), byte_at(text, last))
+}
+
+pub(crate) fn are_in_place(text: &[u8], events: &[Event]) -> bool
+    ensures value { IsTrue result → All (IsInPlace text.now) events.now }
+{
+    events.iter().all(|event| is_in_place(text, event))
+}
+
+// Whether events that have bytes lie one after another.
+pub(crate) fn are_in_order(events: &[Event]) -> bool
+    ensures value { result ≡ are_apart 0 events.now }
+{
+    let mut last = 0;
+    for event in events {
+        if event.start < event.end {
+            if event.start < last {
+                return false;
+            }
+            last = event.end;
+        }
+    }
+    true
 }

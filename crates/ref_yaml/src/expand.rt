@@ -1,5 +1,5 @@
 //! The events of a text with what its aliases mean in their place, and its `<<` merged.
-use crate::event::{Event, Kind};
+use crate::event::{Event, Kind, events_of};
 use crate::fault::{Fault, Stop};
 use crate::links::is_merge;
 use crate::text::text_of;
@@ -23,7 +23,7 @@ pub(crate) fn expand(alloc: Global, text: &str, events: &[Event]) -> Result<Vec<
         text,
         events,
         out: Vec::new(alloc),
-        left: text.len().saturating_mul(10).max(1_000_000),
+        left: events_of(text.len()),
     };
     expander.emit(0, 127)?;
     Ok(expander.out)
@@ -245,6 +245,7 @@ impl Expander<'_> {
         if levels == 0 {
             return Err(Stop::At(Fault::Depth, start));
         }
+        self.count(&self.event(from))?;
         self.merge(from, names, depth, levels - 1)
     }
 }

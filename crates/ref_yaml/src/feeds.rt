@@ -8,7 +8,7 @@ use std::alloc::{AllocError, Global};
 pub(crate) fn with_feeds(alloc: Global, source: &[u8]) -> Result<Vec<u8>, AllocError>
     ensures value { IfOk result (λ v. v.items ≡ with_feeds false source.now) }
 {
-    let mut out = Vec::new(alloc);
+    let mut out = Vec::with_capacity(alloc, source.len())?;
     let mut was_return = false;
     for byte in source {
         if *byte == b'\r' {
@@ -28,7 +28,7 @@ pub(crate) fn with_feeds(alloc: Global, source: &[u8]) -> Result<Vec<u8>, AllocE
 pub(crate) fn with_quotes(alloc: Global, source: &[u8]) -> Result<Vec<u8>, AllocError>
     ensures value { IfOk result (λ v. v.items ≡ with_quotes false source.now) }
 {
-    let mut out = Vec::new(alloc);
+    let mut out = Vec::with_capacity(alloc, source.len())?;
     let mut was_quote = false;
     for byte in source {
         if was_quote && *byte == b'\'' {

@@ -128,7 +128,7 @@ impl Parser<'_> {
             return self.fault(Fault::Begin);
         }
         let index = self.events.len();
-        if self.is_flow_mark(b'?') {
+        if self.is_indicator(b'?') {
             return self.flow_pair(floor, depth);
         }
         self.flow_node(floor, start.at, depth)?;
@@ -168,7 +168,7 @@ impl Parser<'_> {
     #[cycle(flow)]
     fn flow_member(&mut self, floor: usize, depth: usize) -> Result<(), Stop> {
         let mut start = self.here.at;
-        if self.is_flow_mark(b'?') {
+        if self.is_indicator(b'?') {
             start = self.pass_byte();
         } else if self.byte() == b',' {
             return self.fault(Fault::Begin);

@@ -60,7 +60,7 @@ fn push_escaped(out: &mut Vec<u8>, byte: u8) -> Result<(), AllocError>
 pub(crate) fn folded(alloc: Global, source: &[u8], escapes: bool) -> Result<Vec<u8>, AllocError>
     ensures value { IfOk result (λ v. v.items ≡ folded escapes false [] 0 false source.now) }
 {
-    let mut out = Vec::new(alloc);
+    let mut out = Vec::with_capacity(alloc, source.len())?;
     let mut white = Vec::new(alloc);
     let mut breaks: usize = 0;
     let mut is_joined = false;

@@ -11,7 +11,7 @@ use std::alloc::{AllocError, Global};
 fn without_indent(alloc: Global, body: &[u8], indent: usize) -> Result<Vec<u8>, AllocError>
     ensures value { IfOk result (λ v. v.items ≡ without_indent indent indent body.now) }
 {
-    let mut out = Vec::new(alloc);
+    let mut out = Vec::with_capacity(alloc, body.len())?;
     let mut left = indent;
     for byte in body {
         if *byte == b'\n' {
@@ -60,7 +60,7 @@ fn push_before(out: &mut Vec<u8>, breaks: usize, is_kept: bool) -> Result<(), Al
 fn folded_lines(alloc: Global, lines: &[u8]) -> Result<Vec<u8>, AllocError>
     ensures value { IfOk result (λ v. v.items ≡ folded_lines false true 0 lines.now) }
 {
-    let mut out = Vec::new(alloc);
+    let mut out = Vec::with_capacity(alloc, lines.len())?;
     let mut is_inside = false;
     let mut was_white = true;
     let mut breaks: usize = 0;
@@ -106,7 +106,7 @@ fn push_last(
 fn chomped(alloc: Global, text: &[u8], chomping: u8) -> Result<Vec<u8>, AllocError>
     ensures value { IfOk result (λ v. v.items ≡ chomped chomping false 0 text.now) }
 {
-    let mut out = Vec::new(alloc);
+    let mut out = Vec::with_capacity(alloc, text.len())?;
     let mut has_text = false;
     let mut breaks: usize = 0;
     for byte in text {

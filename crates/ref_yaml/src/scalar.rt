@@ -163,10 +163,10 @@ impl Parser<'_> {
         self.end_property(own, end)
     }
 
-    // After a property white space has to come, or in brackets a comma or a bracket.
+    // After a property white space has to come, or in brackets a comma or the closing bracket.
     fn end_property(&mut self, own: &mut Properties, end: usize) -> Result<(), Stop> {
         let byte = peek(self.text, end);
-        if !is_blank(byte) && !is_flow_indicator(byte) {
+        if !is_blank(byte) && !matches!(byte, b',' | b']' | b'}') {
             return Err(Stop::At(Fault::Properties, end));
         }
         own.end = end;

@@ -1,5 +1,6 @@
 //! The texts that scalars are.
-ghost use Rattle.std.specs.Prelude.{◌≡◌, ◌+◌, ◌-◌, Some, IfOk, string_bytes, option_map};
+ghost use Rattle.std.specs.Prelude.{◌≡◌, ◌+◌, ◌-◌, ◌↔◌, Some, All, IsTrue, IfOk, string_bytes, option_map};
+ghost use Rattle.ref_yaml.specs.Passing.{IsWithoutMark};
 ghost use Rattle.ref_yaml.specs.Scalars as spec;
 ghost use Rattle.ref_yaml.specs.declared.event.Kind.TheVariants.{Plain, SingleQuoted, DoubleQuoted, Literal, Folded};
 
@@ -23,10 +24,31 @@ fn part(text: &str, from: usize, to: usize) -> &[u8]
     &[]
 }
 
+// Whether bytes have neither a line break nor this one.
+fn is_one_line(source: &[u8], mark: u8) -> bool
+    ensures value { IsTrue result ↔ All (IsWithoutMark mark) source.now }
+{
+    source
+        .iter()
+        .all(|byte| *byte != b'\n' && *byte != b'\r' && *byte != mark)
+}
+
+// Bytes as they are.
+fn same_bytes(alloc: Global, source: &[u8]) -> Result<Vec<u8>, AllocError>
+    ensures value { IfOk result (λ v. v.items ≡ source.now) }
+{
+    let mut out = Vec::with_capacity(alloc, source.len())?;
+    out.extend_from_slice(source)?;
+    Ok(out)
+}
+
 // The text of a plain scalar.
 fn plain_text(alloc: Global, source: &[u8]) -> Result<Vec<u8>, AllocError>
     ensures value { IfOk result (λ v. v.items ≡ spec.plain_text source.now) }
 {
+    if is_one_line(source, b'\n') {
+        return same_bytes(alloc, source);
+    }
     let lines = with_feeds(alloc, source)?;
     folded(alloc, lines.as_slice(), false)
 }
@@ -35,6 +57,9 @@ fn plain_text(alloc: Global, source: &[u8]) -> Result<Vec<u8>, AllocError>
 fn single_text(alloc: Global, source: &[u8]) -> Result<Vec<u8>, AllocError>
     ensures value { IfOk result (λ v. v.items ≡ spec.single_text source.now) }
 {
+    if is_one_line(source, b'\'') {
+        return same_bytes(alloc, source);
+    }
     let quoted = with_quotes(alloc, source)?;
     plain_text(alloc, quoted.as_slice())
 }
@@ -44,6 +69,9 @@ fn double_text(alloc: Global, source: &[u8]) -> Result<Option<Vec<u8>>, AllocErr
     ensures value { IfOk result
         (λ o. option_map (λ v. v.items) o ≡ spec.double_text source.now) }
 {
+    if is_one_line(source, b'\\') {
+        return Ok(Some(same_bytes(alloc, source)?));
+    }
     let lines = with_feeds(alloc, source)?;
     let joined = folded(alloc, lines.as_slice(), true)?;
     unescaped(alloc, joined.as_slice())
