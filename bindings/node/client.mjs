@@ -31,17 +31,25 @@ export class Patchsard {
         this.#lines.push(JSON.stringify({ call, ...members }) + "\n");
         return new Promise((resolve, reject) => this.#waiting.push({ resolve, reject }));
     }
-    // `retrieve` takes the URI of a document that isn't there, and answers a schema or a promise of one; `parent` is a registry.
+    // The value of a text of YAML.
+    async yaml(text) { return (await this.call("yaml", { text })).value; }
+    // `retrieve` takes the URI of a document that isn't there, and answers a schema or a promise of one; `parent` is a registry. In place of a schema there may be `{ yaml: text }`.
     async open(documents, { retrieve, parent, ...members } = {}) {
+        documents = await Promise.all(documents.map(async ([uri, schema]) => [uri, await this.#read(schema)]));
         for (const remote = new Map(); ; ) {
             try {
                 const answer = await this.call("open", { documents, remote: [...remote], parent: parent?.number, ...members });
                 return new Registry(this, answer.registry, this.#values(answer, documents, remote), parent);
             } catch (error) {
                 if (!retrieve || !error.uri || remote.has(error.uri)) throw error;
-                remote.set(error.uri, await retrieve(error.uri));
+                remote.set(error.uri, await this.#read(await retrieve(error.uri)));
             }
         }
+    }
+    // A schema, which may be given as a text of YAML.
+    async #read(schema) {
+        const isYaml = schema && Object.keys(schema).length === 1 && typeof schema.yaml === "string";
+        return isYaml ? this.yaml(schema.yaml) : schema;
     }
     // The value of each document of an answer. Of those whose URIs mean the same the last counts.
     #values({ documents: uris, given }, documents, remote) {

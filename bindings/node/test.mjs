@@ -65,3 +65,12 @@ test("a program that ends", async () => {
     await new Promise((resolve) => other.process.on("close", resolve));
     await assert.rejects(other.open([]), /has ended/);
 });
+
+test("documents in YAML", async () => {
+    const texts = ["$defs:\n  item: {$ref: 'other#/a'}\n", "a: {type: string}\n"];
+    const registry = await patchsard.open([[base, { yaml: texts[0] }]], { retrieve: async () => ({ yaml: texts[1] }) });
+    const { value } = await registry.lookup(base, "other#/a");
+    assert.deepEqual(value, { type: "string" });
+    assert.deepEqual(await patchsard.yaml("200: [a, ~]"), { 200: ["a", null] });
+    await assert.rejects(patchsard.open([[base, { yaml: "a: 1\na: 2" }]]), { name: "NotYaml", reason: "same-key", offset: 5 });
+});

@@ -2,6 +2,7 @@
 nothing beside the file that is asked for."""
 import base64
 import hashlib
+import io
 import os
 import tarfile
 import zipfile
@@ -10,6 +11,9 @@ TOP = os.path.dirname(os.path.dirname(os.path.abspath(__file__)))
 NAME, TAG = "patchsard", "py3-none-any"
 # In archives, so that the same files make the same archive.
 BEGIN = (1980, 1, 1, 0, 0, 0)
+# In a wheel that has the program.
+PROGRAM = "patchsard/bin/patchsard"
+COMMAND = "[console_scripts]\npatchsard = patchsard._command:main\n"
 
 
 def _version():
@@ -47,22 +51,30 @@ def _package():
                 yield f"patchsard/{name}", file.read()
 
 
-def _wheel(folder, files):
-    """Writes a wheel with these files, and returns its name."""
-    info = f"{NAME}-{_version()}.dist-info"
-    files = [*files, (f"{info}/METADATA", _metadata().encode()), (f"{info}/WHEEL", f"Wheel-Version: 1.0\nGenerator: patchsard_backend\nRoot-Is-Purelib: true\nTag: {TAG}\n".encode())]
+def _wheel(folder, files, tag=TAG, begin=BEGIN, programs=()):
+    """Writes a wheel with these files, into a folder or a file that is open, and returns its name."""
+    info, is_pure = f"{NAME}-{_version()}.dist-info", "false" if programs else "true"
+    files = [*files, (f"{info}/METADATA", _metadata().encode()), (f"{info}/WHEEL", f"Wheel-Version: 1.0\nGenerator: patchsard_backend\nRoot-Is-Purelib: {is_pure}\nTag: {tag}\n".encode())]
     record = "".join(f"{path},sha256={base64.urlsafe_b64encode(hashlib.sha256(data).digest()).rstrip(b'=').decode()},{len(data)}\n" for path, data in files)
-    name = f"{NAME}-{_version()}-{TAG}.whl"
-    with zipfile.ZipFile(os.path.join(folder, name), "w", zipfile.ZIP_DEFLATED) as wheel:
+    name = f"{NAME}-{_version()}-{tag}.whl"
+    with zipfile.ZipFile(os.path.join(folder, name) if isinstance(folder, (str, os.PathLike)) else folder, "w", zipfile.ZIP_DEFLATED) as wheel:
         for path, data in [*files, (f"{info}/RECORD", f"{record}{info}/RECORD,,\n".encode())]:
-            entry = zipfile.ZipInfo(path, BEGIN)
-            entry.external_attr = 0o644 << 16
+            entry = zipfile.ZipInfo(path, begin)
+            entry.external_attr = (0o100755 if path in programs else 0o100644) << 16
             wheel.writestr(entry, data, zipfile.ZIP_DEFLATED)
     return name
 
 
 def build_wheel(wheel_directory, config_settings=None, metadata_directory=None):
     return _wheel(wheel_directory, list(_package()))
+
+
+def wheel_with_program(program, tag, more, begin):
+    """The name and the bytes of a wheel with the program's bytes, which has a command too, and with more files about it. `scripts/package` calls it."""
+    info, out = f"{NAME}-{_version()}.dist-info", io.BytesIO()
+    files = [*_package(), (PROGRAM, program), *((f"{info}/{path}", data) for path, data in more), (f"{info}/entry_points.txt", COMMAND.encode())]
+    name = _wheel(out, files, tag, begin, (PROGRAM,))
+    return name, out.getvalue()
 
 
 def build_editable(wheel_directory, config_settings=None, metadata_directory=None):

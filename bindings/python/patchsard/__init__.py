@@ -1,6 +1,6 @@
 """References of JSON Schema, resolved by the program patchsard, with the names of Python's `referencing`."""
 from patchsard import exceptions, jsonschema
-from patchsard._core import Anchor, Dangling, Draft, Registry, Resolved, Resolver, Resource, Retrieved
+from patchsard._core import Anchor, Dangling, Draft, Registry, Resolved, Resolver, Resource, Retrieved, from_yaml
 from patchsard.exceptions import (
     CallRefused,
     CallTimedOut,
@@ -13,6 +13,7 @@ from patchsard.exceptions import (
     NoSuchAnchor,
     NoSuchResource,
     NotBundled,
+    NotYaml,
     PatchsardError,
     PointerToNowhere,
     ProcessEnded,
@@ -40,6 +41,7 @@ __all__ = [
     "NoSuchAnchor",
     "NoSuchResource",
     "NotBundled",
+    "NotYaml",
     "PatchsardError",
     "PointerToNowhere",
     "ProcessEnded",
@@ -54,5 +56,6 @@ __all__ = [
     "Unresolvable",
     "Unretrievable",
     "exceptions",
+    "from_yaml",
     "jsonschema",
 ]

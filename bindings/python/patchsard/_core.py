@@ -7,7 +7,7 @@ import weakref
 from typing import Any, Callable, Dict, Iterable, Iterator, List, Literal, Mapping, NamedTuple, Optional, Sequence, Set, Tuple, TypeVar, Union, overload
 
 from patchsard import _process
-from patchsard.exceptions import CallRefused, CannotDetermineSpecification, InvalidUri, NoInternalID, NoSuchAnchor, NoSuchResource, ProcessEnded, Unresolvable, Unretrievable, from_answer
+from patchsard.exceptions import CallRefused, CannotDetermineSpecification, InvalidUri, NoInternalID, NoSuchAnchor, NoSuchResource, NotYaml, ProcessEnded, Unresolvable, Unretrievable, from_answer
 
 Schema = Any
 Pairs = Iterable[Tuple[str, Any]]
@@ -373,6 +373,41 @@ def _meta(process: _process.Process) -> Optional[_Opened]:
     return process.meta or None
 
 
+def from_yaml(text: str) -> Schema:
+    """The value of a text of YAML: of one document of YAML 1.2 with the core schema, whose keys are texts. `NotYaml` where the text isn't read as one.
+
+    >>> from_yaml("type: [string, 'null']")
+    {'type': ['string', 'null']}
+    """
+    return _from_yaml(text, None, None)
+
+
+def _from_yaml(text: str, uri: Optional[str], timeout: Optional[float]) -> Schema:
+    if not isinstance(text, str):
+        raise TypeError(f"A text of YAML is a str; this is {type(text).__name__}")
+    try:
+        line = f'{{"call":"yaml","text":{_encode(text)}}}\n'.encode("utf-8")
+    except UnicodeEncodeError:
+        raise _not_yaml("A text has half of a surrogate pair, which is no character", "character", text, None, uri) from None
+    answer = _process.shared().ask(line, timeout)
+    if "error" not in answer:
+        return answer["result"]["value"]
+    error = answer["error"]
+    if error["name"] != "NotYaml":
+        raise from_answer(error, "")
+    raise _not_yaml(error["message"], error["reason"], text, error["offset"], uri)
+
+
+def _not_yaml(message: str, reason: str, text: str, offset: Optional[int], uri: Optional[str]) -> NotYaml:
+    """The exception for a text that isn't YAML, with the place of an offset in its bytes."""
+    error = NotYaml(message if uri is None else f"{uri!r}: {message}")
+    error.reason, error.document = reason, uri
+    if offset is not None:
+        before = text.encode("utf-8")[:offset].decode("utf-8", "ignore")
+        error.line, error.column = before.count("\n") + 1, len(before) - (before.rfind("\n") + 1) + 1
+    return error
+
+
 class Registry(Mapping[str, Resource]):
     """Documents, each under a URI.
 
@@ -434,6 +469,15 @@ class Registry(Mapping[str, Resource]):
     def with_contents(self, pairs: Pairs, default_specification: Optional[Draft] = None) -> "Registry":
         """A registry with more documents, each by the draft that it names, or the default one, or that of the registry."""
         return self.with_resources((uri, Resource(contents, None if _named(contents) else default_specification)) for uri, contents in pairs)
+
+    def with_yaml(self, uri: str, text: str) -> "Registry":
+        """A registry with one document more, which is given as a text of YAML. `NotYaml` where the text isn't read as one.
+
+        >>> registry = Registry().with_yaml("u:a", "properties:\\n  item: {$ref: '#/$defs/item'}\\n$defs:\\n  item: {type: string}")
+        >>> registry.resolver("u:a").lookup("#/$defs/item").contents
+        {'type': 'string'}
+        """
+        return self.with_resource(uri, Resource(_from_yaml(text, uri, self._timeout)))
 
     def remove(self, uri: str) -> "Registry":
         """A registry without the document under a URI. `NoSuchResource` where there is none."""

@@ -19,14 +19,24 @@ _MOST = 1 << 16
 _decoded = json.JSONDecoder().scan_once
 
 
+def program_beside() -> Optional[str]:
+    """The path of the program that a wheel with the program has in the package."""
+    path = os.path.join(os.path.dirname(os.path.abspath(__file__)), "bin", "patchsard")
+    return path if os.access(path, os.X_OK) else None
+
+
 def find_program() -> str:
-    """The path of the program: what PATCHSARD names; else what was built in the repository that this file is in; else the one on PATH."""
+    """The path of the program: what PATCHSARD names; else the one that was installed with the package; else what was built in the repository that this file is
+    in; else the one on PATH."""
     named = os.environ.get("PATCHSARD")
     if named:
         found = shutil.which(named)
         if found is None:
             raise ProgramNotFound(f"The environment variable PATCHSARD names {named!r}, which is no program")
         return found
+    beside = program_beside()
+    if beside is not None:
+        return beside
     top = os.path.dirname(os.path.dirname(os.path.dirname(os.path.dirname(os.path.abspath(__file__)))))
     built = os.path.join(top, "scripts", "built")
     if os.access(built, os.X_OK):

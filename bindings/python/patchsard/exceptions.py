@@ -77,6 +77,17 @@ class NotBundled(PatchsardError):
     reason: Optional[str] = None
 
 
+class NotYaml(PatchsardError, ValueError):
+    """A text isn't read as YAML of one document. `reason` is the name of what is wrong, as `same-key`, `line` and `column` say where, counted from 1, and `document` is its URI,
+    where it has one.
+    """
+
+    reason: Optional[str] = None
+    document: Optional[str] = None
+    line: Optional[int] = None
+    column: Optional[int] = None
+
+
 class NoSuchResource(PatchsardError, KeyError):
     """No document and no identifier of a registry has this URI. A caller's `retrieve` may raise it too."""
 

@@ -15,7 +15,7 @@ import unittest
 from unittest import mock
 
 import patchsard
-from patchsard import Registry, _process
+from patchsard import Registry, _command, _process
 from patchsard.exceptions import from_answer
 
 SCHEMA = {"$defs": {str(number): {"const": number} for number in range(50)}}
@@ -331,6 +331,24 @@ class WhereTheProgramIs(unittest.TestCase):
                 file.write("#!/bin/sh\n")
             os.chmod(f"{room}/patchsard", 0o755)
             self.assertEqual(_process.find_program(), f"{room}/patchsard")
+
+    def test_in_the_package(self):
+        with tempfile.TemporaryDirectory() as room, mock.patch.dict(os.environ, PATH=room), mock.patch.object(_process, "__file__", f"{room}/patchsard/_process.py"):
+            os.environ.pop("PATCHSARD", None)
+            for path in (f"{room}/patchsard", f"{room}/patchsard/bin"):
+                os.mkdir(path)
+            with open(f"{room}/patchsard/bin/patchsard", "w") as file:
+                file.write("#!/bin/sh\necho $0 $*\nexit 7\n")
+            self.assertIsNone(_process.program_beside())
+            with mock.patch("sys.stderr"):
+                self.assertEqual(_command.main(), 2)
+            os.chmod(f"{room}/patchsard/bin/patchsard", 0o755)
+            self.assertEqual(_process.find_program(), f"{room}/patchsard/bin/patchsard")
+            os.environ["PATCHSARD"] = sys.executable
+            self.assertEqual(_process.find_program(), sys.executable)
+            code = f"import sys; from patchsard import _command, _process; _process.__file__ = {_process.__file__!r}; sys.argv = ['x', 'lint', 'a b']; _command.main()"
+            done = subprocess.run([sys.executable, "-c", code], stdout=subprocess.PIPE, timeout=60, check=False)
+            self.assertEqual((done.returncode, os.fsdecode(done.stdout)), (7, f"{room}/patchsard/bin/patchsard lint a b\n"))
 
     def test_built_in_the_repository(self):
         with tempfile.TemporaryDirectory() as room, mock.patch.dict(os.environ), mock.patch.object(_process, "__file__", f"{room}/a/b/c/d.py"):

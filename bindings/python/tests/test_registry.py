@@ -490,6 +490,27 @@ class Faults(unittest.TestCase):
             resolver.lookup("c d")
         self.assertEqual(resolver.in_subresource({"$id": "f g"}), resolver)
 
+    def test_yaml(self):
+        registry = Registry().with_yaml(BASE, "properties:\n  item: {$ref: 'other#/a'}\n").with_yaml("https://example.com/other", "a: {type: string}")
+        found = registry.resolver(BASE).lookup("other#/a")
+        self.assertEqual(found.contents, {"type": "string"})
+        self.assertIs(found.contents, registry.contents("https://example.com/other")["a"])
+        self.assertEqual(patchsard.from_yaml("200: [~, 0o17, 'é', no]"), {"200": [None, 15, "é", "no"]})
+        retrieved = Registry({BASE: {"$ref": "other"}}, retrieve=lambda uri: patchsard.from_yaml("$anchor: x"))
+        self.assertEqual(retrieved.resolver(BASE).lookup("other#x").contents, {"$anchor": "x"})
+
+    def test_no_yaml(self):
+        with self.assertRaises(patchsard.NotYaml) as caught:
+            Registry().with_yaml(BASE, "é: 1\nb:\n  ü: {c: 1, c: 2}\n")
+        error = caught.exception
+        self.assertEqual((error.reason, error.document, error.line, error.column), ("same-key", BASE, 3, 13))
+        self.assertIsInstance(error, patchsard.PatchsardError)
+        with self.assertRaises(patchsard.NotYaml) as caught:
+            patchsard.from_yaml("a: \ud800")
+        self.assertEqual(caught.exception.reason, "character")
+        with self.assertRaises(TypeError):
+            patchsard.from_yaml(b"a: 1")
+
 
 if __name__ == "__main__":
     unittest.main()

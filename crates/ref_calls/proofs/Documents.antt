@@ -1,5 +1,5 @@
 -- Documents that are taken out of a call.
-use Rattle.std.proofs.Common.{◌≡◌, ◌≢◌, ℕ, Bool, true, false, cond, List, [], ◌∷◌, ◌++◌, Some, None, length, suc, ◌+◌, Ok, add-one, map, refl, sym, ap, ◌∙◌, String, Global, string_bytes, nat_cmp, is_eq}
+use Rattle.std.proofs.Common.{◌≡◌, ◌≢◌, ℕ, Bool, true, false, cond, Ordering, Less, Equal, Greater, List, [], ◌∷◌, ◌++◌, Some, None, length, suc, ◌+◌, Ok, add-one, map, refl, sym, ap, ◌∙◌, String, Global, string_bytes, nat_cmp, is_eq}
 use Rattle.std.proofs.lemmas.List.{map-append}
 use Rattle.std.proofs.lemmas.Map.Text.{is_eq-slice_cmp}
 use Rattle.std.proofs.lemmas.Slice.Eq.{bytes_eq-Decides}
@@ -47,3 +47,18 @@ pub others_kept : (name other : List ℕ) (es : List Entry) → other ≢ name
     → get_member other (members_view (remove_entry (is_at (λ k. slice_cmp nat_cmp name (string_bytes k))) es)) ≡ get_member other (members_view es)
 others_kept name other [] apart = refl
 others_kept name other (e ∷ es) apart = kept_at (is_eq (slice_cmp nat_cmp name (string_bytes e.0))) name other e es refl apart (others_kept name other es apart)
+
+gone_at : (o : Ordering) (name : List ℕ) (e : Entry) (es more : List Entry) → slice_cmp nat_cmp name (string_bytes e.0) ≡ o → None ≡ get_member name (members_view (e ∷ es))
+    → (None ≡ get_member name (members_view es) → get_member name (members_view more) ≡ None) → get_member name (members_view (cond (is_eq o) es (e ∷ more))) ≡ None
+gone_at Less name e es more is none later =
+    ap (λ o. match_ordering o (get_member name (members_view more)) (Some (view e.1)) (get_member name (members_view more))) is
+    ∙ later (none ∙ ap (λ o. match_ordering o (get_member name (members_view es)) (Some (view e.1)) (get_member name (members_view es))) is)
+gone_at Equal name e es more is none later = absurd (let same = none ∙ ap (λ o. match_ordering o (get_member name (members_view es)) (Some (view e.1)) (get_member name (members_view es))) is in cc)
+gone_at Greater name e es more is none later =
+    ap (λ o. match_ordering o (get_member name (members_view more)) (Some (view e.1)) (get_member name (members_view more))) is
+    ∙ later (none ∙ ap (λ o. match_ordering o (get_member name (members_view es)) (Some (view e.1)) (get_member name (members_view es))) is)
+
+-- what wasn't there isn't there after it is taken out
+pub still_gone : (name : List ℕ) (es : List Entry) → None ≡ get_member name (members_view es) → get_member name (members_view (remove_entry (is_at (λ k. slice_cmp nat_cmp name (string_bytes k))) es)) ≡ None
+still_gone name [] none = refl
+still_gone name (e ∷ es) none = gone_at (slice_cmp nat_cmp name (string_bytes e.0)) name e es _ refl none (still_gone name es)

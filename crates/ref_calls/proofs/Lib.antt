@@ -1,3 +1,4 @@
 pub mod Further
 pub mod Documents
 pub mod OnLiterals
+pub mod InYaml

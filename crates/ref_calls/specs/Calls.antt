@@ -10,7 +10,7 @@ use Rattle.ref_draft.specs.Names.{draft_named}
 use Rattle.ref_definitions.specs.Results.{◌>>=◌}
 use Rattle.ref_definitions.specs.Fault.{as_invalid_uri}
 use Rattle.ref_calls.specs.declared.call.Call.{Call}
-use Rattle.ref_calls.specs.declared.call.Call.TheVariants.{Hello, Uri, DraftOf, Faults, Open, Lookup, Recursive, Enter, Follow, Places, References, Dangling, Vocabularies, Bundle, Close}
+use Rattle.ref_calls.specs.declared.call.Call.TheVariants.{Hello, Uri, DraftOf, Yaml, Faults, Open, Lookup, Recursive, Enter, Follow, Places, References, Dangling, Vocabularies, Bundle, Close}
 use Rattle.ref_calls.specs.declared.fault.Wrong.TheVariants.{UnknownField, MissingField, InvalidField}
 use Rattle.ref_calls.specs.Errors.{plain_error, with_field, field_error, as_error, in_field, at_index}
 
@@ -22,6 +22,7 @@ call_named s =
     if bytes_eq s (codes "hello") then Some Hello
     else (if bytes_eq s (codes "uri") then Some Uri
     else (if bytes_eq s (codes "draft") then Some DraftOf
+    else (if bytes_eq s (codes "yaml") then Some Yaml
     else (if bytes_eq s (codes "faults") then Some Faults
     else (if bytes_eq s (codes "open") then Some Open
     else (if bytes_eq s (codes "lookup") then Some Lookup
@@ -33,20 +34,22 @@ call_named s =
     else (if bytes_eq s (codes "dangling") then Some Dangling
     else (if bytes_eq s (codes "vocabularies") then Some Vocabularies
     else (if bytes_eq s (codes "bundle") then Some Bundle
-    else (if bytes_eq s (codes "close") then Some Close else None))))))))))))))
+    else (if bytes_eq s (codes "close") then Some Close else None)))))))))))))))
 
 -- the names of all calls, in this order
 abbrev pub call_names : List (List ℕ)
 call_names =
-    codes "hello" ∷ codes "uri" ∷ codes "draft" ∷ codes "faults" ∷ codes "open" ∷ codes "lookup"
-    ∷ codes "recursive" ∷ codes "enter" ∷ codes "follow" ∷ codes "places" ∷ codes "references"
-    ∷ codes "dangling" ∷ codes "vocabularies" ∷ codes "bundle" ∷ codes "close" ∷ []
+    codes "hello" ∷ codes "uri" ∷ codes "draft" ∷ codes "yaml" ∷ codes "faults" ∷ codes "open"
+    ∷ codes "lookup" ∷ codes "recursive" ∷ codes "enter" ∷ codes "follow" ∷ codes "places"
+    ∷ codes "references" ∷ codes "dangling" ∷ codes "vocabularies" ∷ codes "bundle" ∷ codes "close"
+    ∷ []
 
 -- the members that a call knows besides `call` and `id`
 abbrev pub fields_of : Call → List (List ℕ)
 fields_of Hello = []
 fields_of Uri = codes "base" ∷ codes "reference" ∷ []
 fields_of DraftOf = codes "schema" ∷ codes "draft" ∷ []
+fields_of Yaml = codes "text" ∷ []
 fields_of Faults = codes "documents" ∷ codes "remote" ∷ codes "draft" ∷ []
 fields_of Open =
     codes "documents" ∷ codes "remote" ∷ codes "parent" ∷ codes "draft" ∷ codes "limit" ∷ []

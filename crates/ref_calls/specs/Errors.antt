@@ -30,6 +30,15 @@ not_json_members offset =
 unfoldable pub not_json : ℕ → Data
 not_json offset = object_of (not_json_members offset)
 
+-- the error of a text that isn't read as YAML: what is wrong, by the name of the fault, and where, in bytes of the text
+abbrev pub not_yaml_members : List ℕ → ℕ → List (List ℕ × Data)
+not_yaml_members reason offset =
+    error_members (codes "NotYaml") (codes "The text is no YAML: " ++ reason)
+    ++ (codes "reason", string reason) ∷ (codes "offset", whole offset) ∷ []
+
+unfoldable pub not_yaml : List ℕ → ℕ → Data
+not_yaml reason offset = object_of (not_yaml_members reason offset)
+
 -- ---- where it is in a call
 
 -- an error with one more member

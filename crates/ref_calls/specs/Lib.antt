@@ -4,3 +4,5 @@ pub mod Errors
 pub mod Calls
 pub mod Given
 pub mod Rows
+pub mod Yaml
+pub mod inner

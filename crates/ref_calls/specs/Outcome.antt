@@ -1,5 +1,5 @@
 -- What a call gives that may run out of memory: a value, or an error object.
-use Rattle.std.specs.Prelude.{◌≡◌, Result}
+use Rattle.std.specs.Prelude.{◌≡◌, Result, Ok, Err}
 use Rattle.serde_json.specs.Data.{Data}
 use Rattle.serde_json.specs.View.{view}
 use Rattle.serde_json.specs.declared.value.Value.{Value}
@@ -24,3 +24,9 @@ Answers seen result defined = json.Answers seen view result defined
 abbrev pub IsChanged : (Data → Data) → Stop Value → Stop Value → Type 0
 IsChanged change Memory result = result ≡ Memory
 IsChanged change (Because value) result = IsStop result (change (view value))
+
+-- a call gives what it may, unless memory ran out: its result or its error object
+abbrev pub Gives : (Result Data Data → Type 0) → Result Value (Stop Value) → Type 0
+Gives may (Ok value) = may (Ok (view value))
+Gives may (Err Memory) = Unit {0}
+Gives may (Err (Because value)) = may (Err (view value))

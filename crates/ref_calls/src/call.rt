@@ -15,6 +15,7 @@ pub enum Call {
     Hello,
     Uri,
     DraftOf,
+    Yaml,
     Faults,
     Open,
     Lookup,
@@ -36,6 +37,7 @@ fn call_named(name: &str) -> Option<Call>
         "hello" => Some(Call::Hello),
         "uri" => Some(Call::Uri),
         "draft" => Some(Call::DraftOf),
+        "yaml" => Some(Call::Yaml),
         "faults" => Some(Call::Faults),
         "open" => Some(Call::Open),
         "lookup" => Some(Call::Lookup),
@@ -53,10 +55,11 @@ fn call_named(name: &str) -> Option<Call>
 }
 
 // The names of all calls.
-const NAMES: [&str; 15] = [
+const NAMES: [&str; 16] = [
     "hello",
     "uri",
     "draft",
+    "yaml",
     "faults",
     "open",
     "lookup",
@@ -86,6 +89,7 @@ fn fields_of(call: Call) -> &'static [&'static str]
         Call::Hello => &[],
         Call::Uri => &["base", "reference"],
         Call::DraftOf => &["schema", "draft"],
+        Call::Yaml => &["text"],
         Call::Faults => &["documents", "remote", "draft"],
         Call::Open => &["documents", "remote", "parent", "draft", "limit"],
         Call::Lookup => &["registry", "base", "scope", "reference", "values"],

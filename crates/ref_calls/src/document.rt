@@ -1,5 +1,5 @@
 //! The documents of a call.
-ghost use Rattle.std.specs.Prelude.{◌≡◌, ◌≢◌, ℕ, List, codes, map, option_map, IfOk};
+ghost use Rattle.std.specs.Prelude.{◌≡◌, ◌≢◌, ℕ, List, codes, map, None, option_map, IfOk};
 ghost use Rattle.serde_json.specs.Find.{get, get_member};
 ghost use Rattle.serde_json.specs.View.{view, members_view};
 ghost use Rattle.ref_error.specs.Retrieving.{trees_of};
@@ -81,6 +81,8 @@ pub fn documents_of(alloc: Global, value: Value, field: &str) -> Result<Vec<Docu
 /// The member under a key, which is taken out.
 pub fn taken(members: &mut Members, key: &str) -> Option<Value>
     ensures value { option_map view result ≡ get_member key.now (members_view members.old.entries) }
+    ensures gone { None ≡ get_member key.now (members_view members.old.entries)
+        → get_member key.now (members_view members.new.entries) ≡ None }
     ensures others { (other : List ℕ) → other ≢ key.now
         → get_member other (members_view members.new.entries)
         ≡ get_member other (members_view members.old.entries) }

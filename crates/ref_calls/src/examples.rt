@@ -7,10 +7,11 @@ ghost use Rattle.serde_json.specs.Find.{get};
 ghost use Rattle.ref_draft.specs.declared.draft.Draft.TheVariants.{Draft4, Draft7, Draft202012};
 ghost use Rattle.ref_definitions.specs.Fault.{PointerToNowhere, InvalidPercentEncoding, InvalidArrayIndex, NoSuchAnchor, InvalidAnchor, UnknownSpecification, RetrievalLimit};
 ghost use Rattle.ref_definitions.specs.Rows.{yes, text, whole_number, empty, one, two, list, pair};
-ghost use Rattle.ref_calls.specs.declared.call.Call.TheVariants.{Hello, Uri, DraftOf, Faults, Open, Lookup, Recursive, Enter, Follow, Places, References, Dangling, Vocabularies, Bundle, Close};
+ghost use Rattle.ref_calls.specs.declared.call.Call.TheVariants.{Hello, Uri, DraftOf, Yaml, Faults, Open, Lookup, Recursive, Enter, Follow, Places, References, Dangling, Vocabularies, Bundle, Close};
 ghost use Rattle.ref_calls.specs.declared.fault.Wrong.TheVariants.{UnknownField, MissingField, InvalidField, UnknownRegistry};
 ghost use Rattle.ref_calls.specs.Calls.{call_of, call_named, call_names, is_known, required_member, text_in, number_in, is_set, draft_of, schema_of, base_of, scope_of, document_of, documents_of, documents_at, needed_documents, under_uris};
-ghost use Rattle.ref_calls.specs.Errors.{not_json, field_error, with_field, with_index, fault_error, fault_name, wanted_document};
+ghost use Rattle.ref_calls.specs.Yaml.{yaml_document, with_value, IsItemRead, value_object};
+ghost use Rattle.ref_calls.specs.Errors.{not_json, not_yaml, field_error, with_field, with_index, fault_error, fault_name, wanted_document};
 ghost use Rattle.ref_calls.specs.Objects.{answer_of, object_of, texts, whole};
 ghost use Rattle.ref_calls.specs.Rows.{call, call_with, told};
 
@@ -37,10 +38,11 @@ pub fn calls()
         ≡ Some (text "UnknownCall") }
     ensures no_name { call_named (codes "refer") ≡ None }
     ensures each_is_named { map call_named call_names
-        ≡ Some Hello ∷ Some Uri ∷ Some DraftOf ∷ Some Faults ∷ Some Open ∷ Some Lookup
-        ∷ Some Recursive ∷ Some Enter ∷ Some Follow ∷ Some Places ∷ Some References
-        ∷ Some Dangling ∷ Some Vocabularies ∷ Some Bundle ∷ Some Close ∷ [] }
+        ≡ Some Hello ∷ Some Uri ∷ Some DraftOf ∷ Some Yaml ∷ Some Faults ∷ Some Open
+        ∷ Some Lookup ∷ Some Recursive ∷ Some Enter ∷ Some Follow ∷ Some Places
+        ∷ Some References ∷ Some Dangling ∷ Some Vocabularies ∷ Some Bundle ∷ Some Close ∷ [] }
     ensures without_members { call_of (call "hello") ≡ Ok Hello }
+    ensures of_a_text { call_of (call_with "yaml" "text" (text "a")) ≡ Ok Yaml }
     ensures no_registry_is_asked { told "field" (call_of (call_with "uri" "registry" (whole_number 0)))
         ≡ Some (text "registry") }
     ensures limit { is_known Open (codes "limit") ≡ true }
@@ -111,6 +113,23 @@ pub fn documents()
     ensures field_of_needed { told "field" (needed_documents None) ≡ Some (text "documents") }
     ensures under_their_uris { under_uris (codes "remote") ((codes "a", yes) ∷ [])
         ≡ Ok ((codes "json-schema:///a", yes) ∷ []) }
+{}
+
+/// Documents that are given as texts of YAML.
+pub fn documents_in_yaml()
+    ensures text_of { yaml_document (pair (text "a") (one "yaml" (text "b")))
+        ≡ Some (codes "a", codes "b") }
+    ensures two_members { yaml_document (pair (text "a") (two "yaml" (text "b") "z" yes)) ≡ None }
+    ensures no_text { yaml_document (pair (text "a") (one "yaml" yes)) ≡ None }
+    ensures another_key { yaml_document (pair (text "a") (one "yml" (text "b"))) ≡ None }
+    ensures alone { yaml_document (list (one "yaml" (text "b"))) ≡ None }
+    ensures with_its_value { with_value (codes "a") yes ≡ pair (text "a") yes }
+    ensures stays { IsItemRead (pair (text "a") yes) (Ok (pair (text "a") yes)) }
+    ensures name_of_no_yaml { get (codes "name") (not_yaml (codes "depth") 5)
+        ≡ Some (text "NotYaml") }
+    ensures reason { get (codes "reason") (not_yaml (codes "depth") 5) ≡ Some (text "depth") }
+    ensures offset { get (codes "offset") (not_yaml (codes "depth") 5) ≡ Some (whole_number 5) }
+    ensures shown { value_object yes ≡ one "value" yes }
 {}
 
 /// The objects of errors.

@@ -94,6 +94,29 @@ pub fn not_json(alloc: Global, offset: usize) -> Stop<Value>
     }
 }
 
+fn not_yaml_members(alloc: Global, reason: &str, offset: usize) -> Result<Members, AllocError>
+    ensures { IfOk result
+        (λ m. members_view m.entries
+        ≡ with_all (spec.not_yaml_members reason.now offset) no_members) }
+{
+    let message = format!(in alloc; "The text is no YAML: {reason}")?;
+    let mut members = error_members(alloc, "NotYaml", message.as_str())?;
+    put_text(alloc, &mut members, "reason", reason)?;
+    put_number(alloc, &mut members, "offset", offset)?;
+    Ok(members)
+}
+
+/// The error of a text that isn't read as YAML, with the name of what is wrong, and the place where it is, in bytes.
+#[tactic(auto, unfolding(crate::specs::Errors::not_yaml))]
+pub fn not_yaml(alloc: Global, reason: &str, offset: usize) -> Stop<Value>
+    ensures { IsStop result (spec.not_yaml reason.now offset) }
+{
+    match not_yaml_members(alloc, reason, offset) {
+        Ok(members) => Stop::Because(Value::Object(members)),
+        Err(_) => Stop::Memory,
+    }
+}
+
 // Puts one more member into an error.
 fn put_member(alloc: Global, error: Value, key: &str, value: Value) -> Result<Value, AllocError>
     ensures { IfOk result (λ d. view d ≡ spec.with_member key.now (view value) (view error)) }

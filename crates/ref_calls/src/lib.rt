@@ -11,6 +11,7 @@ pub mod examples;
 pub mod fault;
 pub mod field;
 pub mod members;
+pub mod yaml;
 
 pub use call::{Call, call_names, call_of};
 pub use fault::Wrong;

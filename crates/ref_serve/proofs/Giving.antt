@@ -10,7 +10,7 @@ use Rattle.ref_json.specs.declared.stop.Stop.{Stop}
 use Rattle.ref_calls.specs.Objects.{with_all, object_of}
 use Rattle.ref_serve.specs.declared.place.Found.{Found}
 use Rattle.ref_serve.specs.Results.{Then, Asked, IsFound, found_members, resolver_members}
-use Rattle.ref_serve.specs.inner.Giving.{Gives}
+use Rattle.ref_calls.specs.Outcome.{Gives}
 use Rattle.ref_serve.specs.inner.Seen.{IsFoundBy}
 
 with_all-append : (xs ys : List (List ℕ × Data)) (ms : Members) → with_all (xs ++ ys) ms ≡ with_all ys (with_all xs ms)

@@ -6,6 +6,7 @@ pub mod FaultyList
 pub mod KnownVocabularies
 pub mod Referring
 pub mod Replying
+pub mod TextsRead
 pub mod Steps
 pub mod OpeningReads
 pub mod OnLiterals

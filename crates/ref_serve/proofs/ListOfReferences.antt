@@ -14,7 +14,8 @@ use Rattle.ref_calls.specs.Errors.{at_index, with_index}
 use Rattle.ref_calls.specs.Outcome.{IsChanged}
 use Rattle.ref_calls.proofs.Further.{in_front}
 use Rattle.ref_serve.specs.Results.{Asked, Then, Question, IsLookedUp, IsListed, AreListed, IsList, question_in}
-use Rattle.ref_serve.specs.inner.Giving.{Gives, IsListedAs}
+use Rattle.ref_calls.specs.Outcome.{Gives}
+use Rattle.ref_serve.specs.inner.Giving.{IsListedAs}
 
 -- what is listed so far, before the questions that are left to read
 abbrev pub IsSoFar : Asked → List Data → Result (List Question) Data → Result (List Question) Data → Type 0

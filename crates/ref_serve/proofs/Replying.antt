@@ -5,7 +5,7 @@ use Rattle.serde_json.specs.Find.{get}
 use Rattle.serde_json.specs.View.{view}
 use Rattle.serde_json.specs.declared.value.Value.{Value}
 use Rattle.ref_calls.specs.declared.call.Call.{Call}
-use Rattle.ref_calls.specs.declared.call.Call.TheVariants.{Hello, Uri, DraftOf, Faults, Open, Lookup, Recursive, Enter, Follow, Places, References, Dangling, Vocabularies, Bundle, Close}
+use Rattle.ref_calls.specs.declared.call.Call.TheVariants.{Hello, Uri, DraftOf, Yaml, Faults, Open, Lookup, Recursive, Enter, Follow, Places, References, Dangling, Vocabularies, Bundle, Close}
 use Rattle.ref_json.specs.declared.stop.Stop.{Stop}
 use Rattle.ref_json.specs.declared.stop.Stop.TheVariants.{Memory, Because}
 use Rattle.ref_serve.specs.declared.answer.Reply.{Reply}
@@ -13,8 +13,8 @@ use Rattle.ref_serve.specs.State.{Registries}
 use Rattle.ref_json.specs.Text.{tree_of}
 use Rattle.ref_calls.specs.Calls.{call_of}
 use Rattle.ref_calls.specs.Objects.{answer_of, IsLineOf}
-use Rattle.ref_serve.specs.inner.Giving.{Gives}
-use Rattle.ref_serve.specs.Answering.{IsReply, IsReplyTo, IsAnswerTo, IsAnswer}
+use Rattle.ref_calls.specs.Outcome.{Gives}
+use Rattle.ref_serve.specs.Answering.{IsFaults, IsReply, IsReplyTo, IsAnswerTo, IsAnswer}
 use Rattle.ref_serve.specs.inner.Replies.{Replies, IsRead, IsUnchanged, registries_after}
 
 as_reply : (call : Call) (state next : Registries) (d : Data) (outcome : Result Data Data) → (call ≡ Open → ⊥) → (call ≡ Close → ⊥) → (call ≡ Faults → ⊥) → IsUnchanged call state d next outcome → IsReply call state d next outcome
@@ -22,6 +22,7 @@ as_reply Open state next d outcome other another third given = absurd (other ref
 as_reply Hello state next d outcome other another third given = given
 as_reply Uri state next d outcome other another third given = given
 as_reply DraftOf state next d outcome other another third given = given
+as_reply Yaml state next d outcome other another third given = given
 as_reply Faults state next d outcome other another third given = absurd (third refl)
 as_reply Lookup state next d outcome other another third given = given
 as_reply Recursive state next d outcome other another third given = given
@@ -46,6 +47,10 @@ replies call state d read (Err (Because value)) is other another third given =
 pub stopped : (call : Call) (state : Registries) (d : Data) (stop : Stop Value) → Gives (IsRead call state d) (Err stop) → Replies (IsUnchanged call state d) state (Err stop)
 stopped call state d Memory given = tt
 stopped call state d (Because value) given = (given, refl)
+
+pub faulty_stopped : (state : Registries) (d : Data) (stop : Stop Value) → Gives (IsFaults d) (Err stop) → Replies (IsReply Faults state d) state (Err stop)
+faulty_stopped state d Memory given = tt
+faulty_stopped state d (Because value) given = (given, refl)
 
 -- ---- lines
 

@@ -28,7 +28,7 @@ use Rattle.ref_calls.specs.Calls.{each_item}
 use Rattle.ref_calls.proofs.Further.{in_front, in_front_push, first_read}
 use Rattle.ref_serve.specs.declared.place.Found.{Found}
 use Rattle.ref_serve.specs.Results.{Asked, found_members, resolver_members}
-use Rattle.ref_serve.specs.inner.Giving.{Gives}
+use Rattle.ref_calls.specs.Outcome.{Gives}
 use Rattle.ref_serve.specs.Following.{step_in, step_members, step_place, place_after, IsFollowed, IsFollowedTo}
 use Rattle.ref_serve.specs.inner.Seen.{IsFoundBy}
 use Rattle.ref_serve.specs.inner.Steps.{IsLookedUpTo, IsStepError}

@@ -3,26 +3,33 @@ use Rattle.std.specs.Prelude.{◌≡◌, ◌≤◌, length, ℕ, List, [], codes
 use Rattle.serde_json.specs.Data.{Data}
 use Rattle.serde_json.specs.Find.{get}
 use Rattle.ref_calls.specs.declared.call.Call.{Call}
-use Rattle.ref_calls.specs.declared.call.Call.TheVariants.{Hello, Uri, DraftOf, Faults, Open, Lookup, Recursive, Enter, Follow, Places, References, Dangling, Vocabularies, Bundle, Close}
+use Rattle.ref_calls.specs.declared.call.Call.TheVariants.{Hello, Uri, DraftOf, Yaml, Faults, Open, Lookup, Recursive, Enter, Follow, Places, References, Dangling, Vocabularies, Bundle, Close}
 use Rattle.ref_calls.specs.Objects.{object_of, answer_of, IsLineOf}
 use Rattle.ref_calls.specs.Errors.{not_json}
 use Rattle.ref_json.specs.Text.{tree_of}
 use Rattle.ref_calls.specs.Calls.{call_of}
+use Rattle.ref_definitions.specs.Results.{◌>>=◌}
 use Rattle.ref_serve.specs.State.{OpenRegistry, Registries, registry_under, without_registry}
 use Rattle.ref_serve.specs.Opening.{opening_of, IsOpenedAs}
 use Rattle.ref_serve.specs.Results.{IsLookup, IsRecursiveCall, enter_result}
 use Rattle.ref_serve.specs.Following.{IsFollow}
 use Rattle.ref_serve.specs.About.{hello_result, uri_result, draft_result}
 use Rattle.ref_serve.specs.Faults.{faults_result}
+use Rattle.ref_calls.specs.Yaml.{IsCallRead, IsYaml}
 use Rattle.ref_serve.specs.References.{IsReferences}
 use Rattle.ref_serve.specs.Listings.{places_result, dangling_result, vocabularies_result, bundle_result}
+
+-- `faults`, whose texts of YAML are read first
+unfoldable pub IsFaults : Data → Result Data Data → Type 0
+IsFaults d outcome = (read : Result Data Data) × IsCallRead d read × (outcome ≡ (read >>= faults_result))
 
 -- the result of a call that changes no registry, or its error; of `open` and `close` see `IsReply`
 abbrev pub IsResult : Call → Registries → Data → Result Data Data → Type 0
 IsResult Hello state d outcome = outcome ≡ Ok hello_result
 IsResult Uri state d outcome = outcome ≡ uri_result d
 IsResult DraftOf state d outcome = outcome ≡ draft_result d
-IsResult Faults state d outcome = outcome ≡ faults_result d
+IsResult Yaml state d outcome = IsYaml d outcome
+IsResult Faults state d outcome = IsFaults d outcome
 IsResult Lookup state d outcome = IsLookup state d outcome
 IsResult Recursive state d outcome = IsRecursiveCall state d outcome
 IsResult Enter state d outcome = outcome ≡ enter_result state d
@@ -39,6 +46,15 @@ IsResult Close state d outcome = Unit {0}
 unfoldable pub IsOpened : Registries → Data → Registries → Result Data Data → Type 0
 IsOpened state d next outcome = IsOpenedAs (opening_of state d) state next outcome
 
+-- `open`, whose texts of YAML are read first
+abbrev pub IsOpenedRead : Registries → Result Data Data → Registries → Result Data Data → Type 0
+IsOpenedRead state (Ok e) next outcome = IsOpened state e next outcome
+IsOpenedRead state (Err error) next outcome = (outcome ≡ Err error) × (next ≡ state)
+
+unfoldable pub IsOpen : Registries → Data → Registries → Result Data Data → Type 0
+IsOpen state d next outcome =
+    (read : Result Data Data) × IsCallRead d read × IsOpenedRead state read next outcome
+
 -- a registry is closed, and the result has no members
 abbrev pub IsClosed : Registries → Registries → ℕ → Result Data Data → Type 0
 IsClosed state next number outcome =
@@ -51,7 +67,7 @@ IsClose state next (Ok found) outcome = IsClosed state next found.0 outcome
 IsClose state next (Err error) outcome = (outcome ≡ Err error) × (next ≡ state)
 
 abbrev pub IsReply : Call → Registries → Data → Registries → Result Data Data → Type 0
-IsReply Open state d next outcome = IsOpened state d next outcome
+IsReply Open state d next outcome = IsOpen state d next outcome
 IsReply Close state d next outcome =
     IsClose state next (registry_under state d (codes "registry")) outcome
 IsReply call state d next outcome = IsResult call state d outcome × (next ≡ state)

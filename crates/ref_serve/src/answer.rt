@@ -6,17 +6,17 @@ ghost use Rattle.ref_calls.specs.Errors.{not_json as error_of};
 ghost use Rattle.ref_calls.specs.Calls.{call_of};
 ghost use Rattle.ref_calls.specs.declared.call.Call.TheVariants.{Faults};
 ghost use Rattle.ref_serve.specs.Answering as spec;
-ghost use Rattle.ref_serve.specs.inner.Giving.{Gives};
+ghost use Rattle.ref_calls.specs.Outcome.{Gives};
 ghost use Rattle.ref_serve.specs.inner.Replies.{registries_after, Replies, IsRead, IsUnchanged};
 
 use crate::about::{draft, hello, uri};
 use crate::bundling::bundle_document;
 use crate::entering::enter;
-use crate::faults::faults;
+use crate::faults::faults_call;
 use crate::following::follow;
 use crate::listing::{dangling_references, places};
 use crate::looking::{lookup, recursive};
-use crate::opening::open;
+use crate::opening::open_call;
 use crate::references::references;
 use crate::registry::registry_of;
 use crate::state::{Open, State};
@@ -24,6 +24,7 @@ use crate::vocabularies::vocabularies;
 use ref_calls::answer::{error_text, id_of, text_of};
 use ref_calls::call::{Call, call_of};
 use ref_calls::fault::{not_json, plain_error};
+use ref_calls::yaml::yaml;
 use ref_json::{Stop, tree_of};
 use ref_streams::Service;
 use serde_json::{Map, Value};
@@ -119,7 +120,7 @@ fn reply_to(alloc: Global, state: &mut State, tree: Value) -> Result<Reply, Stop
 {
     match call_of(alloc, &tree)? {
         Call::Open => {
-            let opened = open(alloc, state, tree)?;
+            let opened = open_call(alloc, state, tree)?;
             Ok(Reply {
                 result: opened.result,
                 opened: opened.registries,
@@ -143,7 +144,7 @@ fn reply_to(alloc: Global, state: &mut State, tree: Value) -> Result<Reply, Stop
 fn faulty(alloc: Global, state: &State, tree: Value) -> Result<Reply, Stop<Value>>
     ensures { Replies (spec.IsReply Faults state.now (view tree)) state.now result }
 {
-    match faults(alloc, tree) {
+    match faults_call(alloc, tree) {
         Ok(result) => Ok(Reply {
             result,
             opened: Vec::new(alloc),
@@ -175,6 +176,7 @@ fn result_of(alloc: Global, state: &State, call: Call, tree: &Value) -> Result<V
         Call::Hello => Ok(hello(alloc)?),
         Call::Uri => uri(alloc, tree),
         Call::DraftOf => draft(alloc, tree),
+        Call::Yaml => yaml(alloc, tree),
         Call::Lookup => lookup(alloc, state, tree),
         Call::Recursive => recursive(alloc, state, tree),
         Call::Enter => enter(alloc, state, tree),

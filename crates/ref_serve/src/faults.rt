@@ -12,6 +12,8 @@ ghost use Rattle.ref_calls.specs.Given.{given_of};
 ghost use Rattle.ref_calls.specs.Objects.{with_all};
 ghost use Rattle.ref_calls.specs.Outcome.{Answers};
 ghost use Rattle.ref_serve.specs.Faults as spec;
+ghost use Rattle.ref_serve.specs.Answering.{IsFaults};
+ghost use Rattle.ref_calls.specs.Outcome.{Gives};
 ghost use Rattle.ref_serve.specs.inner.Faulty.{IsMaybeFault};
 
 use crate::place::put_site;
@@ -19,6 +21,7 @@ use ref_calls::document::{Document, documents_under, members_of, needed_document
 use ref_calls::fault::fault_members;
 use ref_calls::field::{draft_of, uri_in};
 use ref_calls::members::{Members, put_text};
+use ref_calls::yaml::with_values;
 use ref_draft::trim_hashes;
 use ref_error::{Reason, RetrieveError};
 use ref_findings::{Finding, Problem, Source, findings};
@@ -193,9 +196,9 @@ fn faults_of(
     Ok(faults_in(alloc, draft, sources.as_slice(), held.as_slice())?)
 }
 
-/// The faults of documents, as opening a registry of them meets the first of, or look-ups in it.
+// The faults of documents, as opening a registry of them meets the first of, or look-ups in it.
 #[tactic(auto, unfolding(crate::specs::Faults::faults_result))]
-pub fn faults(alloc: Global, tree: Value) -> Result<Value, Stop<Value>>
+fn faults(alloc: Global, tree: Value) -> Result<Value, Stop<Value>>
     ensures { Answers view result (spec.faults_result (view tree)) }
 {
     let draft = draft_of(alloc, &tree)?;
@@ -203,4 +206,14 @@ pub fn faults(alloc: Global, tree: Value) -> Result<Value, Stop<Value>>
     let documents = needed_documents(alloc, &mut members)?;
     let remote = remote_of(alloc, &mut members)?;
     faults_of(alloc, draft, documents.as_slice(), remote.as_slice())
+}
+
+/// The faults of documents, as opening a registry of them meets the first of, or look-ups in it. Texts of YAML are read first.
+pub fn faults_call(alloc: Global, tree: Value) -> Result<Value, Stop<Value>>
+    ensures { Gives (IsFaults (view tree)) result }
+{
+    match with_values(alloc, tree) {
+        Ok(read) => faults(alloc, read),
+        Err(stop) => Err(stop),
+    }
 }

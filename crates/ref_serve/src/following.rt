@@ -13,7 +13,7 @@ ghost use Rattle.ref_calls.specs.Outcome.{Answers};
 ghost use Rattle.ref_calls.specs.Calls.{each_item};
 ghost use Rattle.ref_serve.specs.Following as spec;
 ghost use Rattle.ref_serve.specs.Results as results;
-ghost use Rattle.ref_serve.specs.inner.Giving.{Gives};
+ghost use Rattle.ref_calls.specs.Outcome.{Gives};
 ghost use Rattle.ref_serve.specs.inner.Seen.{asked_view, answer_at, place_at};
 ghost use Rattle.ref_serve.specs.inner.Steps.{followed_view, IsPlaced, placed_at, IsLookedUpTo, IsStepError};
 

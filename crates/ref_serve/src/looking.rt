@@ -8,7 +8,8 @@ ghost use Rattle.ref_calls.specs.Calls.{each_item};
 ghost use Rattle.ref_calls.specs.Outcome.{Answers};
 ghost use Rattle.ref_serve.specs.Results as results;
 ghost use Rattle.ref_serve.specs.Results.{Then};
-ghost use Rattle.ref_serve.specs.inner.Giving.{Gives, IsListedAs};
+ghost use Rattle.ref_calls.specs.Outcome.{Gives};
+ghost use Rattle.ref_serve.specs.inner.Giving.{IsListedAs};
 ghost use Rattle.ref_serve.specs.inner.Seen.{asked_view, answer_at, place_at};
 
 use crate::asked::{Asked, asked_of, resolver_of};

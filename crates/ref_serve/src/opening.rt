@@ -7,7 +7,7 @@ ghost use Rattle.ref_error.specs.Retrieving.{trees_of};
 ghost use Rattle.ref_calls.specs.Objects.{object_of, with_all, texts, whole};
 ghost use Rattle.ref_calls.specs.Outcome.{Answers};
 ghost use Rattle.ref_calls.specs.Given.{given_of};
-ghost use Rattle.ref_serve.specs.Answering.{IsOpened};
+ghost use Rattle.ref_serve.specs.Answering.{IsOpened, IsOpen};
 ghost use Rattle.ref_serve.specs.Opening as spec;
 ghost use Rattle.ref_serve.specs.inner.Openings.{layers_at, parent_view, opening_view, asked_view, IsWorldOr, IsMetaWorldOr, GivesOpened};
 ghost use Rattle.ref_serve.specs.State.{Registries};
@@ -21,6 +21,7 @@ use ref_calls::document::{
 use ref_calls::fault::{fault_error, in_field};
 use ref_calls::field::{draft_of, number_in};
 use ref_calls::members::{Members, push_text, put_number};
+use ref_calls::yaml::with_values;
 use ref_json::Stop;
 use ref_registries::{registry_from, registry_from_meta_schemas};
 use ref_uri::Uri;
@@ -315,8 +316,8 @@ fn open_above_meta_schemas(
     Ok(open_both(alloc, number, parent, added, given.as_slice())?)
 }
 
-/// Opens a registry of documents, and with it one of meta-schemas where its parent is a list of them.
-pub fn open(alloc: Global, state: &mut State, tree: Value) -> Result<Opened, Stop<Value>>
+// Opens a registry of documents, and with it one of meta-schemas where its parent is a list of them.
+fn open(alloc: Global, state: &mut State, tree: Value) -> Result<Opened, Stop<Value>>
     ensures same { state.new ≡ state.old }
     ensures opened { GivesOpened (IsOpened state.old (view tree)) state.old result }
 {
@@ -326,5 +327,17 @@ pub fn open(alloc: Global, state: &mut State, tree: Value) -> Result<Opened, Sto
         Parent::MetaSchemas(documents) => {
             open_above_meta_schemas(alloc, state.len(), documents, wanted)
         }
+    }
+}
+
+/// Opens a registry of documents, and with it one of meta-schemas where its parent is a list of them. Texts of YAML are read
+/// first.
+pub fn open_call(alloc: Global, state: &mut State, tree: Value) -> Result<Opened, Stop<Value>>
+    ensures same { state.new ≡ state.old }
+    ensures opened { GivesOpened (IsOpen state.old (view tree)) state.old result }
+{
+    match with_values(alloc, tree) {
+        Ok(read) => open(alloc, state, read),
+        Err(stop) => Err(stop),
     }
 }

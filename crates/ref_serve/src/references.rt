@@ -8,7 +8,7 @@ ghost use Rattle.ref_index.specs.Listing.{listed_of};
 ghost use Rattle.ref_resolver.specs.Resolving.{resolver_of as resolver_view, world_of};
 ghost use Rattle.ref_calls.specs.Outcome.{Answers};
 ghost use Rattle.ref_serve.specs.References as spec;
-ghost use Rattle.ref_serve.specs.inner.Giving.{Gives};
+ghost use Rattle.ref_calls.specs.Outcome.{Gives};
 ghost use Rattle.ref_serve.specs.inner.Referred.{Adds, IsTarget, reference_of};
 ghost use Rattle.ref_serve.specs.inner.Seen.{asked_view};
 

@@ -4,7 +4,7 @@ use Rattle.ref_resolver.specs.Resolving.{resolver_of as resolver_view}
 use Rattle.referencing.specs.Following.{step_of}
 use Rattle.ref_calls.specs.Calls.{draft_of}
 use Rattle.ref_serve.specs.Results.{Then, asked_of, resolver_of}
-use Rattle.ref_serve.specs.inner.Giving.{Gives}
+use Rattle.ref_calls.specs.Outcome.{Gives}
 use Rattle.ref_serve.specs.Following.{steps_of, IsFollowedFrom, IsFollowedBy, IsFollow}
 use Rattle.ref_serve.specs.inner.Seen.{asked_view}
 use Rattle.ref_serve.proofs.Giving.{gives_then}

@@ -3,7 +3,7 @@ use Rattle.serde_json.specs.View.{view}
 use Rattle.ref_definitions.specs.Follow.{followed_from}
 use Rattle.ref_resolver.specs.Resolving.{resolver_of as resolver_view}
 use Rattle.referencing.specs.Following.{step_of}
-use Rattle.ref_serve.specs.inner.Giving.{Gives}
+use Rattle.ref_calls.specs.Outcome.{Gives}
 use Rattle.ref_serve.specs.Following.{IsFollowed, start_at, place_after}
 use Rattle.ref_serve.specs.inner.Seen.{asked_view}
 use Rattle.ref_serve.specs.inner.Steps.{followed_view, placed_at}
