@@ -5,7 +5,7 @@ use Rattle.std.proofs.lemmas.Bool.{ne_eqb}
 use Rattle.ref_yaml.specs.Flow.{with_feeds, with_quotes, is_white, folded}
 use Rattle.ref_yaml.specs.Escapes.{unescaped}
 use Rattle.ref_yaml.specs.Scalars.{plain_text, single_text, double_text}
-use Rattle.ref_yaml.specs.Passing.{IsWithoutMark}
+use Rattle.ref_yaml.specs.Passing.{IsWithoutMark, IsNoReturn}
 
 unequal : (a b : ℕ) → a ≢ b → (a == b) ≡ false
 unequal a b apart = ne_eqb a b apart
@@ -15,6 +15,10 @@ first mark b xs all = All-head (IsWithoutMark mark) b xs all
 
 rest : (mark b : ℕ) (xs : List ℕ) → All (IsWithoutMark mark) (b ∷ xs) → All (IsWithoutMark mark) xs
 rest mark b xs all = All-tail (IsWithoutMark mark) b xs all
+
+pub without_returns : (xs : List ℕ) → All IsNoReturn xs → with_feeds false xs ≡ xs
+without_returns [] all = refl
+without_returns (b ∷ xs) all = rw (unequal b 13 (All-head IsNoReturn b xs all)) (ap (λ ys. b ∷ ys) (without_returns xs (All-tail IsNoReturn b xs all)))
 
 feeds_same : (mark : ℕ) (xs : List ℕ) → All (IsWithoutMark mark) xs → with_feeds false xs ≡ xs
 feeds_same mark [] all = refl

@@ -1,5 +1,5 @@
 -- The parts of values: how deep they nest, and what they make.
-use Rattle.std.proofs.Common.{◌≡◌, ℕ, ◌≤◌, List, [], ◌∷◌, ◌++◌, true, false, Option, Some, None, Result, Ok, Err, IfOk, IsTrue, is_some, refl, arith, Ordering, Less, Equal, Greater}
+use Rattle.std.proofs.Common.{◌≡◌, ℕ, ◌≤◌, List, [], ◌∷◌, ◌++◌, true, false, Option, Some, None, Result, Ok, Err, IfOk, IfSome, Bor, IsTrue, is_some, All, refl, ap, ◌∙◌, arith, Ordering, Less, Equal, Greater}
 use Rattle.std.specs.Ordering.{match_ordering, nat_cmp}
 use Rattle.std.specs.Cmp.Lexicographic.{slice_cmp}
 use Rattle.serde_json.specs.Data.{Data, null, boolean, number, string, array, object, Members, no_members, member, put, depth, items_depth, members_depth}
@@ -7,9 +7,12 @@ use Rattle.serde_json.specs.Find.{as_number, get_member}
 use Rattle.serde_json.specs.View.{view, items_of}
 use Rattle.serde_json.specs.declared.value.Value.{Value}
 use Rattle.ref_yaml.specs.Values.{IsValue, AreItems, AreMembers, IsText, IsScalar, fits, scalar, list, members, one_more_item, one_more_member}
+use Rattle.ref_yaml.specs.Passing.{IsWithoutMark}
+use Rattle.ref_yaml.specs.Scalars.{part, plain_text}
+use Rattle.ref_yaml.proofs.OneLine.{plain_same}
 use Rattle.ref_yaml.specs.declared.event.Event.{Event}
 use Rattle.ref_yaml.specs.declared.fault.Stop.{Stop}
-use Rattle.ref_yaml.specs.declared.event.Kind.TheVariants.{BeginArray, EndArray, BeginObject, EndObject}
+use Rattle.ref_yaml.specs.declared.event.Kind.TheVariants.{BeginArray, EndArray, BeginObject, EndObject, Plain}
 
 pub number_depth : (d : Data) → is_some (as_number d) ≡ true → depth d ≡ 0
 number_depth null h = cc
@@ -22,6 +25,21 @@ number_depth (object ms) h = cc
 pub is_none : (o : Option Data) → is_some o ≡ false → o ≡ None
 is_none None h = refl
 is_none (Some d) h = cc
+
+pub plain_is : (text : List ℕ) (e : Event) (s : List ℕ) → e.kind ≡ Plain → s ≡ part text e.start e.end → All (IsWithoutMark 10) s → IsText text e s
+plain_is text e s k is all = record {
+  is_one = rw k refl;
+  plain = λ h. plain_same 10 s all ∙ ap plain_text is;
+  single = λ h. absurd (cc);
+  double = λ h. absurd (cc);
+  literal = λ h. absurd (cc);
+  folded = λ h. absurd (cc);
+}
+
+pub plain_line_is : (text : List ℕ) (e : Event) (r : Option (Bor (List ℕ))) → e.kind ≡ Plain → IfSome r (λ s. s.now ≡ part text e.start e.end) → IfSome r (λ s. All (IsWithoutMark 10) s.now)
+    → IfSome r (λ s. IsText text e s.now)
+plain_line_is text e None k is all = tt
+plain_line_is text e (Some s) k is all = plain_is text e s.now k is all
 
 pub scalar_is : (text : List ℕ) (e : Event) (es rest : List Event) (r : Result Value Stop) → IfOk r (λ v. IsScalar text e (view v)) → IfOk r (λ v. IsTrue (fits e.tag (view v)))
     → e.is_key ≡ false → es ≡ e ∷ rest → IfOk r (λ v. IsValue text es (view v) rest)

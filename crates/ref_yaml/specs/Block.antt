@@ -1,6 +1,25 @@
 -- What the text of a literal or a folded scalar is, by YAML 1.2.2, section 8.1. Texts are their bytes, with line feeds as line breaks.
-use Rattle.std.specs.Prelude.{ℕ, ◌+◌, ◌-◌, ◌==◌, ◌&&◌, ◌||◌, Bool, true, false, not, nat_lt, if◌then◌else◌, List, [], ◌∷◌, ◌++◌, length, slice_index}
+use Rattle.std.specs.Prelude.{ℕ, ◌+◌, ◌-◌, ◌==◌, ◌&&◌, ◌||◌, Bool, true, false, not, nat_lt, nat_le, if◌then◌else◌, List, [], ◌∷◌, ◌++◌, length, slice_index}
 use Rattle.ref_yaml.specs.Flow.{feeds, between, is_white}
+
+-- What is after a header, `|` or `>` and the rest of its line (8.1.1): the lines after the first line break, which a carriage return is too, together with a line feed after it.
+abbrev pub after_return : List ℕ → List ℕ
+after_return [] = []
+after_return (b ∷ t) = if b == 10 then t else b ∷ t
+
+abbrev pub after_header : List ℕ → List ℕ
+after_header [] = []
+after_header (b ∷ t) = if b == 10 then t else if b == 13 then after_return t else after_header t
+
+-- The chomping indicator of a header (8.1.1.2): `-` or `+`, at once or after a digit for the indentation, or else 0.
+abbrev pub is_chomping : ℕ → Bool
+is_chomping b = (b == 45) || (b == 43)
+
+abbrev pub chomping_of : List ℕ → ℕ
+chomping_of source =
+    if is_chomping (slice_index source 1) then slice_index source 1
+    else if (nat_le 49 (slice_index source 1) && nat_le (slice_index source 1) 57) && is_chomping (slice_index source 2) then slice_index source 2
+    else 0
 
 -- Lines without the spaces that they are indented by (8.1.1.1): at most so many of each line, and so many of this one.
 abbrev pub without_indent : ℕ → ℕ → List ℕ → List ℕ

@@ -1,5 +1,6 @@
 -- Events and faults, and their offsets.
 use Rattle.std.specs.Prelude.{ℕ, ◌-◌, ◌*◌, max, ◌<◌, ◌≤◌, ◌==◌, ◌&&◌, ◌||◌, Bool, true, false, not, nat_le, nat_lt, IsTrue, if◌then◌else◌, List, [], ◌∷◌, slice_index, ⊤}
+use Rattle.ref_yaml.specs.Flow.{is_white}
 use Rattle.ref_yaml.specs.declared.event.Event.{Event}
 use Rattle.ref_yaml.specs.declared.event.Kind.{Kind}
 use Rattle.ref_yaml.specs.declared.event.Kind.TheVariants.{EndArray, EndObject, Plain, SingleQuoted, DoubleQuoted, Literal, Folded}
@@ -25,7 +26,7 @@ IsWithin count event = (event.start ≤ event.end) × (event.end ≤ count)
 
 -- a space, a tab or a line break (5.4, 5.5)
 abbrev pub is_space : ℕ → Bool
-is_space b = (b == 32) || (b == 9) || (b == 10) || (b == 13)
+is_space b = is_white b || (b == 10) || (b == 13)
 
 -- whether an event may have these as its first and its last byte: quotes, `|` or `>`, a closing bracket, and in a plain scalar no white space
 abbrev pub has_ends : Kind → ℕ → ℕ → Bool

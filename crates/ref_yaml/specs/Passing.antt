@@ -19,3 +19,7 @@ parts_in d = record { negative = d.is_negative; whole = d.whole.now; point = d.h
 -- A byte is neither a line break nor this one.
 abbrev pub IsWithoutMark : ℕ → ℕ → Type 0
 IsWithoutMark mark b = (b ≢ 10) × (b ≢ 13) × (b ≢ mark)
+
+-- A byte isn't a carriage return.
+abbrev pub IsNoReturn : ℕ → Type 0
+IsNoReturn b = b ≢ 13

@@ -56,6 +56,31 @@ literal = codes " literal\n \ttext\n\n\n"
 abbrev pub literal_text : List ℕ
 literal_text = codes "literal\n\ttext\n"
 
+-- 8.1, each from its indicator on
+abbrev pub no_indicator : List ℕ
+no_indicator = codes "| # Empty header\n literal\n"
+
+abbrev pub no_indicator_text : List ℕ
+no_indicator_text = codes "literal\n"
+
+abbrev pub with_digit : List ℕ
+with_digit = codes ">1 # Indentation indicator\n  folded\n"
+
+abbrev pub with_digit_text : List ℕ
+with_digit_text = codes " folded\n"
+
+abbrev pub with_plus_sign : List ℕ
+with_plus_sign = codes "|+ # Chomping indicator\n keep\n\n"
+
+abbrev pub with_plus_sign_text : List ℕ
+with_plus_sign_text = codes "keep\n\n"
+
+abbrev pub with_both : List ℕ
+with_both = codes ">1- # Both indicators\n  strip\n"
+
+abbrev pub with_both_text : List ℕ
+with_both_text = codes " strip"
+
 -- 8.10
 abbrev pub folded_lines : List ℕ
 folded_lines = codes "\n folded\n line\n\n next\n line\n   * bullet\n\n   * list\n   * lines\n\n last\n line\n\n"

@@ -1,7 +1,7 @@
 -- What the texts of scalars are, by YAML 1.2.2. Texts are their bytes.
 use Rattle.std.specs.Prelude.{◌≡◌, ℕ, ◌-◌, ◌&&◌, true, false, nat_le, if◌then◌else◌, List, [], length, take, drop, Option}
 use Rattle.ref_yaml.specs.Flow.{with_feeds, with_quotes, folded}
-use Rattle.ref_yaml.specs.Block.{literal_text, folded_text}
+use Rattle.ref_yaml.specs.Block.{after_header, chomping_of, literal_text, folded_text}
 use Rattle.ref_yaml.specs.Escapes.{unescaped}
 
 -- the bytes from one offset to another
@@ -20,10 +20,17 @@ single_text source = plain_text (with_quotes false source)
 abbrev pub double_text : List ℕ → Option (List ℕ)
 double_text source = unescaped (folded true false [] 0 false (with_feeds false source))
 
--- a literal scalar with some chomping indicator (8.1.2), whose lines are indented by so many spaces and begin somewhere in a text and end at an offset
-abbrev pub IsLiteral : List ℕ → ℕ → ℕ → List ℕ → Type 0
-IsLiteral text indent end value = (chomping from : ℕ) × (value ≡ literal_text chomping indent (with_feeds false (part text from end)))
+-- a literal scalar (8.1.2), by its bytes from `|` on: its lines, which are indented by so many spaces, with the chomping indicator of its header
+abbrev pub literal_scalar : ℕ → List ℕ → List ℕ
+literal_scalar indent source = literal_text (chomping_of source) indent (with_feeds false (after_header source))
 
--- the same of a folded one (8.1.3)
-abbrev pub IsFolded : List ℕ → ℕ → ℕ → List ℕ → Type 0
-IsFolded text indent end value = (chomping from : ℕ) × (value ≡ folded_text chomping indent (with_feeds false (part text from end)))
+-- the same of a folded one (8.1.3), from `>` on
+abbrev pub folded_scalar : ℕ → List ℕ → List ℕ
+folded_scalar indent source = folded_text (chomping_of source) indent (with_feeds false (after_header source))
+
+-- a literal and a folded scalar from one offset of a text to another
+abbrev pub IsLiteral : List ℕ → ℕ → ℕ → ℕ → List ℕ → Type 0
+IsLiteral text start end indent value = value ≡ literal_scalar indent (part text start end)
+
+abbrev pub IsFolded : List ℕ → ℕ → ℕ → ℕ → List ℕ → Type 0
+IsFolded text start end indent value = value ≡ folded_scalar indent (part text start end)

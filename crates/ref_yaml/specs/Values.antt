@@ -18,8 +18,8 @@ pub record IsText (text : List ℕ) (e : Event) (s : List ℕ) : Type 0 where
   pub plain : e.kind ≡ Plain → s ≡ plain_text (part text e.start e.end)
   pub single : e.kind ≡ SingleQuoted → s ≡ single_text (part text (e.start + 1) (e.end - 1))
   pub double : e.kind ≡ DoubleQuoted → Some s ≡ double_text (part text (e.start + 1) (e.end - 1))
-  pub literal : e.kind ≡ Literal → IsLiteral text e.link e.end s
-  pub folded : e.kind ≡ Folded → IsFolded text e.link e.end s
+  pub literal : e.kind ≡ Literal → IsLiteral text e.start e.end e.link s
+  pub folded : e.kind ≡ Folded → IsFolded text e.start e.end e.link s
 
 -- whether a scalar is a text, whatever it says (10.3.2): if it isn't plain, or if its tag asks for one
 abbrev pub is_text : Tag → Kind → Bool

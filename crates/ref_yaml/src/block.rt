@@ -30,15 +30,20 @@ pub(crate) struct Node {
 }
 
 impl Node {
-    // The properties of a scalar.
-    fn both(&self) -> Result<Properties, Stop> {
-        if !self.outer.are_some() {
-            return Ok(self.own);
+    // The properties of a scalar, those of its line where there are others.
+    fn last(&self) -> Properties {
+        if self.outer.are_some() && !self.own.are_some() {
+            return self.outer;
         }
-        if self.own.are_some() {
+        self.own
+    }
+
+    // The properties of a scalar, which are on one line.
+    fn both(&self) -> Result<Properties, Stop> {
+        if self.outer.are_some() && self.own.are_some() {
             return Err(Stop::At(Fault::Properties, self.own.end));
         }
-        Ok(self.outer)
+        Ok(self.last())
     }
 }
 
@@ -118,12 +123,12 @@ impl Parser<'_> {
     }
 
     fn flow_in_block(&mut self, place: Place, node: Node, depth: usize) -> Result<(), Stop> {
-        let own = node.both()?;
         let start = self.here.at;
-        self.flow_list(place.floor, own, depth)?;
+        self.flow_list(place.floor, node.last(), depth)?;
         if !self.here.is_first && self.byte() == b':' {
             return Err(Stop::At(Fault::Key, start));
         }
+        node.both()?;
         Ok(())
     }
 
@@ -218,7 +223,7 @@ impl Parser<'_> {
         if depth == 0 {
             return self.fault(Fault::Depth);
         }
-        self.advance(colon);
+        self.stand(colon);
         self.object(node, Some(node.own.with(scalar.event)), depth - 1)
     }
 
@@ -301,7 +306,7 @@ impl Parser<'_> {
         if !scalar.is_one_line {
             return Err(Stop::At(Fault::LongKey, scalar.event.start));
         }
-        self.advance(colon);
+        self.stand(colon);
         Ok(own.with(scalar.event))
     }
 

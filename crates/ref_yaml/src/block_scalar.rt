@@ -5,27 +5,25 @@ use crate::fault::{Fault, Stop};
 
 // The first line of a literal or a folded text.
 #[derive(Clone, Copy, Drop)]
-pub(crate) struct Header {
+struct Header {
     // The indentation that is written, or 0.
-    pub(crate) digit: usize,
-    // `-`, `+` or 0.
-    pub(crate) chomping: u8,
+    digit: usize,
     // Where the next line begins.
-    pub(crate) body: usize,
+    body: usize,
 }
 
 // The indicators after `|` or `>`.
 fn indicators(text: &str, from: usize) -> Header {
     let mut header = Header {
         digit: 0,
-        chomping: 0,
         body: from,
     };
+    let mut has_chomping = false;
     for _ in 0..2 {
         let byte = peek(text, header.body);
         match byte {
             b'1'..=b'9' if header.digit == 0 => header.digit = usize::from(byte - b'0'),
-            b'-' | b'+' if header.chomping == 0 => header.chomping = byte,
+            b'-' | b'+' if !has_chomping => has_chomping = true,
             _ => break,
         }
         header.body = header.body.saturating_add(1);
@@ -34,7 +32,7 @@ fn indicators(text: &str, from: usize) -> Header {
 }
 
 // The first line of what begins at an offset, or nothing where something else is on that line.
-pub(crate) fn header_at(text: &str, start: usize) -> Option<Header> {
+fn header_at(text: &str, start: usize) -> Option<Header> {
     let mut header = indicators(text, start.saturating_add(1));
     let mut at = after_white(text, header.body);
     if peek(text, at) == b'#' && at > header.body {

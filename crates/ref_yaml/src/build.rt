@@ -1,8 +1,9 @@
 //! The value that events are.
-ghost use Rattle.std.specs.Prelude.{◌≡◌, false, ◌+◌, ◌≤◌, ◌∷◌, ◌++◌, [], ℕ, List, IfOk, OnOk, IsTrue, drop, map, string_bytes, is_some};
+ghost use Rattle.std.specs.Prelude.{◌≡◌, false, ◌+◌, ◌≤◌, ◌∷◌, ◌++◌, [], ℕ, List, Some, IfOk, OnOk, IfSome, IsTrue, drop, map, string_bytes, is_some};
 ghost use Rattle.serde_json.specs.Data.{Items, Members, array, object, put as with_member, depth as nesting, items_depth, members_depth};
 ghost use Rattle.serde_json.specs.Find.{get_member};
 ghost use Rattle.serde_json.specs.View.{view, items_view, members_view};
+ghost use Rattle.ref_yaml.specs.Core.{core_value};
 ghost use Rattle.ref_yaml.specs.Values.{IsValue, AreMembers, IsScalar, IsText, fits as fits_tag, is_text as is_text_of};
 ghost use Rattle.ref_yaml.specs.declared.event.Event.{Event as event_type};
 ghost use Rattle.ref_yaml.specs.declared.event.Kind.TheVariants.{BeginArray, BeginObject};
@@ -10,7 +11,7 @@ ghost use Rattle.ref_yaml.specs.declared.event.Kind.TheVariants.{BeginArray, Beg
 use crate::core_schema::{fits, fits_array, fits_object, plain_value};
 use crate::event::{Event, Kind, Tag};
 use crate::fault::{Fault, Stop};
-use crate::text::text_of;
+use crate::text::{line_of, text_of};
 use serde_json::{Map, Value};
 use std::alloc::{AllocError, Global};
 
@@ -29,18 +30,14 @@ fn push(items: &mut Vec<Value>, value: Value) -> Result<(), AllocError>
     Ok(())
 }
 
-fn insert(members: &mut Map<String, Value>, name: String, value: Value) -> Result<(), AllocError>
+// Adds a member, and returns whether another had its name.
+fn insert(members: &mut Map<String, Value>, name: String, value: Value) -> Result<bool, AllocError>
     ensures value { OnOk result (members_view members.new.entries
         ≡ with_member (string_bytes name) (view value) (members_view members.old.entries)) }
+    ensures had { IfOk result (λ had. had
+        ≡ is_some (get_member (string_bytes name) (members_view members.old.entries))) }
 {
-    members.insert(name, value)?;
-    Ok(())
-}
-
-fn has(members: &Map<String, Value>, name: &str) -> bool
-    ensures value { result ≡ is_some (get_member name.now (members_view members.now.entries)) }
-{
-    members.contains_key(name)
+    Ok(members.insert(name, value)?.is_some())
 }
 
 fn array_of(items: Vec<Value>) -> Value
@@ -131,17 +128,39 @@ impl Builder<'_> {
         text_of(self.alloc, self.text, event)
     }
 
+    // The value of a scalar that no tag makes a text, by the core schema.
+    fn plain(&self, event: &Event) -> Result<Value, Stop>
+        ensures value { IfOk result (λ v. (s : List ℕ) × IsText self.now.text.now event.now s
+            × (core_value s ≡ Some (view v))) }
+        ensures depth { IfOk result (λ v. nesting (view v) ≡ 0) }
+    {
+        if let Some(line) = self.plain_line(event) {
+            return plain_value(self.alloc, line, event.start);
+        }
+        let text = self.text(event)?;
+        plain_value(self.alloc, text.as_str(), event.start)
+    }
+
+    // The text of a plain scalar that is on one line.
+    fn plain_line(&self, event: &Event) -> Option<&str>
+        ensures value { IfSome result (λ s. IsText self.now.text.now event.now s.now) }
+    {
+        if event.kind != Kind::Plain {
+            return None;
+        }
+        line_of(self.text, event.start, event.end, b'\n')
+    }
+
     // The value of a scalar: a text where it is quoted or its tag asks for one.
     fn scalar(&self, event: &Event) -> Result<Value, Stop>
         ensures value { IfOk result (λ v. IsScalar self.now.text.now event.now (view v)) }
         ensures fits { IfOk result (λ v. IsTrue (fits_tag event.now.tag (view v))) }
         ensures depth { IfOk result (λ v. nesting (view v) ≡ 0) }
     {
-        let text = self.text(event)?;
         if is_text(event) {
-            return Ok(Value::String(text));
+            return Ok(Value::String(self.text(event)?));
         }
-        let value = plain_value(self.alloc, text.as_str(), event.start)?;
+        let value = self.plain(event)?;
         if !fits(event.tag, &value) {
             return Err(Stop::At(Fault::Tag, event.start));
         }
@@ -213,9 +232,9 @@ impl Builder<'_> {
         }
         let value = self.value(at, depth)?;
         let name = self.text(&key)?;
-        if has(members, name.as_str()) {
+        if insert(members, name, value)? {
             return Err(Stop::At(Fault::SameKey, key.start));
         }
-        Ok(insert(members, name, value)?)
+        Ok(())
     }
 }

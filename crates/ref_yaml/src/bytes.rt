@@ -85,10 +85,25 @@ pub(crate) fn is_marker(text: &str, at: usize) -> bool {
         && is_blank(peek(text, at.saturating_add(3)))
 }
 
-// The first control character but a tab and a line break, or nothing.
+// A control character but a tab and a line break.
+fn is_control(byte: u8) -> bool {
+    byte < 32 && byte != b'\t' && byte != b'\n' && byte != b'\r'
+}
+
+// Whether there is one. The loop has no other way out, so that it takes many bytes at a time.
+fn has_control(bytes: &[u8]) -> bool {
+    let mut has_one = false;
+    for byte in bytes {
+        has_one |= is_control(*byte);
+    }
+    has_one
+}
+
+// The first control character, or nothing.
 pub(crate) fn control_in(text: &str) -> Option<usize> {
-    text.as_bytes().iter().position(|byte| *byte < 32
-        && *byte != b'\t'
-        && *byte != b'\n'
-        && *byte != b'\r')
+    let bytes = text.as_bytes();
+    if !has_control(bytes) {
+        return None;
+    }
+    bytes.iter().position(|byte| is_control(*byte))
 }

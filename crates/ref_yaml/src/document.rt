@@ -154,9 +154,9 @@ impl<'t> Document<'t> {
         ensures double { IfOk result (λ s. event.now.kind ≡ DoubleQuoted → Some (string_bytes s)
             ≡ spec.double_text (spec.part self.now.text.now (event.now.start + 1) (event.now.end - 1))) }
         ensures literal { IfOk result (λ s. event.now.kind ≡ Literal
-            → spec.IsLiteral self.now.text.now event.now.link event.now.end (string_bytes s)) }
+            → spec.IsLiteral self.now.text.now event.now.start event.now.end event.now.link (string_bytes s)) }
         ensures folded { IfOk result (λ s. event.now.kind ≡ Folded
-            → spec.IsFolded self.now.text.now event.now.link event.now.end (string_bytes s)) }
+            → spec.IsFolded self.now.text.now event.now.start event.now.end event.now.link (string_bytes s)) }
     {
         text_of(alloc, self.text, event)
     }

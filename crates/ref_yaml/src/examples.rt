@@ -5,7 +5,7 @@ ghost use Rattle.std.specs.Prelude.{◌≡◌, true, negsuc, codes, Some, None};
 ghost use Rattle.serde_json.specs.Data.{number, string, boolean, null, unsigned, negative};
 ghost use Rattle.ref_yaml.specs.Block.{literal_text, folded_text};
 ghost use Rattle.ref_yaml.specs.Core.{core_value, as_json, parts_of};
-ghost use Rattle.ref_yaml.specs.Scalars.{plain_text, single_text, double_text};
+ghost use Rattle.ref_yaml.specs.Scalars.{plain_text, single_text, double_text, literal_scalar, folded_scalar};
 ghost use Rattle.ref_yaml.specs.Rows as rows;
 
 // Example 7.12, plain lines.
@@ -32,6 +32,14 @@ pub(crate) fn block_lines()
     ensures keep { literal_text 43 2 rows.one_line ≡ rows.kept }
     ensures literal { literal_text 0 1 rows.literal ≡ rows.literal_text }
     ensures folded { folded_text 0 1 rows.folded_lines ≡ rows.folded_lines_text }
+{}
+
+// Example 8.1, headers.
+pub(crate) fn block_headers()
+    ensures none { literal_scalar 1 rows.no_indicator ≡ rows.no_indicator_text }
+    ensures digit { folded_scalar 1 rows.with_digit ≡ rows.with_digit_text }
+    ensures chomping { literal_scalar 1 rows.with_plus_sign ≡ rows.with_plus_sign_text }
+    ensures both { folded_scalar 1 rows.with_both ≡ rows.with_both_text }
 {}
 
 // Example 10.9, tags of the core schema: words, whole numbers, what JSON doesn't have, and texts.

@@ -109,10 +109,44 @@ const NAMES: [&str; 25] = [
     "offsets",
 ];
 
+// What is wrong and what to do, by faults in their order.
+const ADVICE: [&str; 25] = [
+    "Not YAML: a control character; write it as an escape in double quotes",
+    "Not YAML that is read: of directives only %YAML 1.1 and 1.2, with --- on a line after it; remove others",
+    "Not YAML that is read: a tag that isn't one of the core schema, or doesn't fit its value; remove it",
+    "Not YAML: a value has one anchor with a name and one tag at most; remove the others",
+    "Not YAML: no anchor of this name comes before the alias; define it before",
+    "Not YAML that is read: an alias to a value that holds it; write the value without it",
+    "Not YAML that is read: aliases make more than ten parts for each byte of the file; write fewer of them",
+    "Not YAML that is read: << merges an object or a list of objects; give it one, or write it in quotes",
+    "Not YAML: a tab where a line is indented; use spaces",
+    "Not YAML: this line begins at no column that is open; indent it as what it belongs to",
+    "Not YAML: a list or an object can't begin here; begin it on a line of its own",
+    "Not YAML: no value begins with this character; write the value in quotes",
+    "Not YAML that is read: a list or an object as a key; JSON has texts alone",
+    "Not YAML: a key goes over more than one line; write it on one",
+    "Not YAML: a key without a colon and a space after it; add them, or indent what belongs to the value before",
+    "Not YAML: the key comes twice in one object; remove one of both",
+    "Not YAML: a quote or a bracket that opens and isn't closed; close it",
+    "Not YAML: a comma or a closing bracket is expected; add it",
+    "Not YAML: an escape that there isn't; write \\\\ for a backslash, or use single quotes",
+    "Not YAML: after | or > a digit for the indentation, + or -, and a comment; write nothing else on the line",
+    "Not YAML: something after the end of a value; remove it, or write the whole value in quotes",
+    "Not YAML that is read: a second document; write it to a file of its own",
+    "Not YAML that is read: nested more than 127 levels deep; nest less",
+    "Not YAML that is read: a number that JSON doesn't have; write it in quotes, or another one",
+    "Not YAML that can be read: a mistake of this program; report the file",
+];
+
 impl Fault {
     /// Its name, in lower case with hyphens.
     pub fn name(self) -> &'static str {
         NAMES.get(self as usize).copied().unwrap_or("")
+    }
+
+    /// What is wrong and what to do about it, as a sentence for whoever wrote the text, without a period.
+    pub fn advice(self) -> &'static str {
+        ADVICE.get(self as usize).copied().unwrap_or("")
     }
 }
 

@@ -1,30 +1,58 @@
 //! The lines of literal and folded scalars (8.1).
 ghost use Rattle.std.specs.Prelude.{◌≡◌, ◌++◌, true, false, if◌then◌else◌, IfOk, OnOk};
 ghost use Rattle.ref_yaml.specs.Flow.{feeds, between};
-ghost use Rattle.ref_yaml.specs.Block.{without_indent, is_ended, block_lines, folded_lines, last_feeds, chomped, literal_text, folded_text};
+ghost use Rattle.ref_yaml.specs.Block as spec;
+ghost use Rattle.ref_yaml.specs.Block.{is_ended, block_lines, folded_lines, last_feeds, chomped, literal_text, folded_text};
 
 use crate::bytes::is_white;
 use crate::fold::{push_between, push_feeds};
+use crate::number::byte_at;
 use std::alloc::{AllocError, Global};
 
-// Lines without the spaces that they are indented by.
-fn without_indent(alloc: Global, body: &[u8], indent: usize) -> Result<Vec<u8>, AllocError>
-    ensures value { IfOk result (λ v. v.items ≡ without_indent indent indent body.now) }
+// What is after a line feed that may be there.
+fn after_return(source: &[u8]) -> &[u8]
+    ensures value { result.now ≡ spec.after_return source.now }
 {
-    let mut out = Vec::with_capacity(alloc, body.len())?;
-    let mut left = indent;
-    for byte in body {
+    if byte_at(source, 0) == b'\n' {
+        return &source[1..];
+    }
+    source
+}
+
+// The lines after a header.
+pub(crate) fn after_header(source: &[u8]) -> &[u8]
+    ensures value { result.now ≡ spec.after_header source.now }
+{
+    for (at, byte) in source.iter().enumerate() {
         if *byte == b'\n' {
-            out.push(b'\n')?;
-            left = indent;
-        } else if *byte == b' ' && 0 < left {
-            left -= 1;
-        } else {
-            out.push(*byte)?;
-            left = 0;
+            return &source[at + 1..];
+        }
+        if *byte == b'\r' {
+            return after_return(&source[at + 1..]);
         }
     }
-    Ok(out)
+    &[]
+}
+
+fn is_chomping(byte: u8) -> bool
+    ensures value { result ≡ spec.is_chomping byte }
+{
+    matches!(byte, b'-' | b'+')
+}
+
+// The chomping indicator of a header, or 0.
+pub(crate) fn chomping_of(source: &[u8]) -> u8
+    ensures value { result ≡ spec.chomping_of source.now }
+{
+    let first = byte_at(source, 1);
+    let second = byte_at(source, 2);
+    if is_chomping(first) {
+        return first;
+    }
+    if b'1' <= first && first <= b'9' && is_chomping(second) {
+        return second;
+    }
+    0
 }
 
 // Whether the last line has its line break, or there is none.
@@ -34,15 +62,11 @@ fn is_ended(body: &[u8]) -> bool
     body.is_empty() || body[body.len() - 1] == b'\n'
 }
 
-// The lines of a body, the last one ended too.
-fn block_lines(alloc: Global, body: &[u8], indent: usize) -> Result<Vec<u8>, AllocError>
-    ensures value { IfOk result (λ v. v.items ≡ block_lines indent body.now) }
+// How many line breaks the last line lacks.
+fn missing_breaks(body: &[u8]) -> usize
+    ensures value { result ≡ (if is_ended body.now then 0 else 1) }
 {
-    let mut out = without_indent(alloc, body, indent)?;
-    if !is_ended(body) {
-        out.push(b'\n')?;
-    }
-    Ok(out)
+    if is_ended(body) { 0 } else { 1 }
 }
 
 // Adds what is before a line of a folded scalar.
@@ -56,30 +80,37 @@ fn push_before(out: &mut Vec<u8>, breaks: usize, is_kept: bool) -> Result<(), Al
     push_between(out, breaks, false)
 }
 
-// Lines that are folded, each ended.
-fn folded_lines(alloc: Global, lines: &[u8]) -> Result<Vec<u8>, AllocError>
-    ensures value { IfOk result (λ v. v.items ≡ folded_lines false true 0 lines.now) }
+// The lines of a body, folded and each ended.
+fn folded_lines(alloc: Global, body: &[u8], indent: usize) -> Result<Vec<u8>, AllocError>
+    ensures value { IfOk result
+        (λ v. v.items ≡ folded_lines false true 0 (block_lines indent body.now)) }
 {
-    let mut out = Vec::with_capacity(alloc, lines.len())?;
+    let mut out = Vec::with_capacity(alloc, body.len())?;
+    let mut left = indent;
     let mut is_inside = false;
     let mut was_white = true;
     let mut breaks: usize = 0;
-    for byte in lines {
+    for byte in body {
         if *byte == b'\n' {
+            left = indent;
             is_inside = false;
             breaks += 1;
+        } else if *byte == b' ' && 0 < left {
+            left -= 1;
         } else if is_inside {
             out.push(*byte)?;
+            left = 0;
         } else {
             let is_white = is_white(*byte);
             push_before(&mut out, breaks, was_white || is_white)?;
             out.push(*byte)?;
+            left = 0;
             is_inside = true;
             was_white = is_white;
             breaks = 0;
         }
     }
-    push_feeds(&mut out, breaks)?;
+    push_feeds(&mut out, breaks + missing_breaks(body))?;
     Ok(out)
 }
 
@@ -132,8 +163,26 @@ pub(crate) fn literal_text(
 ) -> Result<Vec<u8>, AllocError>
     ensures value { IfOk result (λ v. v.items ≡ literal_text chomping indent body.now) }
 {
-    let lines = block_lines(alloc, body, indent)?;
-    chomped(alloc, lines.as_slice(), chomping)
+    let mut out = Vec::with_capacity(alloc, body.len())?;
+    let mut left = indent;
+    let mut has_text = false;
+    let mut breaks: usize = 0;
+    for byte in body {
+        if *byte == b'\n' {
+            left = indent;
+            breaks += 1;
+        } else if *byte == b' ' && left > 0 {
+            left -= 1;
+        } else {
+            push_feeds(&mut out, breaks)?;
+            out.push(*byte)?;
+            left = 0;
+            has_text = true;
+            breaks = 0;
+        }
+    }
+    push_last(&mut out, chomping, has_text, breaks + missing_breaks(body))?;
+    Ok(out)
 }
 
 // The text of a body after `>`.
@@ -145,7 +194,6 @@ pub(crate) fn folded_text(
 ) -> Result<Vec<u8>, AllocError>
     ensures value { IfOk result (λ v. v.items ≡ folded_text chomping indent body.now) }
 {
-    let lines = block_lines(alloc, body, indent)?;
-    let joined = folded_lines(alloc, lines.as_slice())?;
+    let joined = folded_lines(alloc, body, indent)?;
     chomped(alloc, joined.as_slice(), chomping)
 }

@@ -1,4 +1,5 @@
 //! What aliases mean, and which keys merge (7.1; the merge key of YAML 1.1).
+use crate::bytes::peek;
 use crate::event::{Event, Kind, NOWHERE, Tag};
 use crate::fault::{Fault, Stop};
 use crate::scalar::name_end;
@@ -9,7 +10,9 @@ use std::collections::BTreeMap;
 pub(crate) fn is_merge(text: &str, event: &Event) -> bool {
     event.kind == Kind::Plain
         && event.tag == Tag::None
-        && text.get(event.start..event.end) == Some("<<")
+        && event.end == event.start.saturating_add(2)
+        && peek(text, event.start) == b'<'
+        && peek(text, event.start.saturating_add(1)) == b'<'
 }
 
 // The name after the `&` or the `*` at an offset.

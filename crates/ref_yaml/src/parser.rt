@@ -99,6 +99,12 @@ impl<'t> Parser<'t> {
         self.here = Cursor::after(self.text, to, self.here.line);
     }
 
+    // Goes to an offset of this line, with more than white space before it.
+    pub(crate) fn stand(&mut self, at: usize) {
+        self.here.at = at;
+        self.here.is_first = false;
+    }
+
     // Goes on after the byte that is here, and returns where that is.
     pub(crate) fn pass_byte(&mut self) -> usize {
         let next = self.here.at.saturating_add(1);

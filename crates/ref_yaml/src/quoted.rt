@@ -1,34 +1,50 @@
 //! Where quoted texts end, and whether their lines are indented (7.3.1, 7.3.2).
 use crate::bytes::{is_break, peek};
 use crate::cursor::Cursor;
+use crate::scan::Span;
 
-// The offset of the single quote that ends a text.
-pub(crate) fn single_end(text: &str, from: usize) -> Option<usize> {
+// The offset of the single quote that ends a text, and whether the text is on one line.
+pub(crate) fn single_end(text: &str, from: usize) -> Option<Span> {
     let mut is_second = false;
+    let mut is_one_line = true;
     for at in from..text.len() {
         if is_second {
             is_second = false;
-        } else if peek(text, at) == b'\'' {
-            if peek(text, at + 1) != b'\'' {
-                return Some(at);
+        } else {
+            match peek(text, at) {
+                b'\'' if peek(text, at + 1) != b'\'' => {
+                    return Some(Span {
+                        end: at,
+                        is_one_line,
+                    });
+                }
+                b'\'' => is_second = true,
+                b'\n' | b'\r' => is_one_line = false,
+                _ => (),
             }
-            is_second = true;
         }
     }
     None
 }
 
-// The offset of the double quote that ends a text.
-pub(crate) fn double_end(text: &str, from: usize) -> Option<usize> {
+// The offset of the double quote that ends a text, and whether the text is on one line.
+pub(crate) fn double_end(text: &str, from: usize) -> Option<Span> {
     let mut is_escaped = false;
+    let mut is_one_line = true;
     for at in from..text.len() {
         let byte = peek(text, at);
+        if is_break(byte) {
+            is_one_line = false;
+        }
         if is_escaped {
             is_escaped = false;
         } else if byte == b'\\' {
             is_escaped = true;
         } else if byte == b'"' {
-            return Some(at);
+            return Some(Span {
+                end: at,
+                is_one_line,
+            });
         }
     }
     None
@@ -44,14 +60,17 @@ pub(crate) struct Lines {
     pub(crate) marker: Option<usize>,
 }
 
-// The lines from one offset to another, which are to be indented by so many spaces at least.
-pub(crate) fn lines_of(text: &str, from: usize, to: usize, floor: usize) -> Lines {
+// The lines of what begins at an offset, which are to be indented by so many spaces at least.
+pub(crate) fn lines_of(text: &str, from: usize, span: Span, floor: usize) -> Lines {
     let mut lines = Lines {
         is_one: true,
         outside: None,
         marker: None,
     };
-    for at in from..to {
+    if span.is_one_line {
+        return lines;
+    }
+    for at in from..span.end {
         if is_break(peek(text, at)) {
             lines.is_one = false;
             lines.pass(Cursor::on_line(text, at + 1, at + 1), text, floor);

@@ -80,10 +80,10 @@ impl Parser<'_> {
 
     fn scan_single(&self, floor: usize) -> Result<Scalar, Stop> {
         let start = self.here.at;
-        let Some(end) = single_end(self.text, start.saturating_add(1)) else {
+        let Some(span) = single_end(self.text, start.saturating_add(1)) else {
             return self.fault(Fault::End);
         };
-        let lines = lines_of(self.text, start, end, floor);
+        let lines = lines_of(self.text, start, span, floor);
         if let Some(marker) = lines.marker {
             return Err(Stop::At(Fault::End, marker));
         }
@@ -91,17 +91,17 @@ impl Parser<'_> {
             return Err(Stop::At(Fault::Indentation, outside.at));
         }
         Ok(Scalar {
-            event: Event::new(Kind::SingleQuoted, start, end.saturating_add(1)),
+            event: Event::new(Kind::SingleQuoted, start, span.end.saturating_add(1)),
             is_one_line: lines.is_one,
         })
     }
 
     fn scan_double(&mut self, floor: usize) -> Result<Scalar, Stop> {
         let start = self.here.at;
-        let Some(end) = double_end(self.text, start.saturating_add(1)) else {
+        let Some(span) = double_end(self.text, start.saturating_add(1)) else {
             return self.fault(Fault::End);
         };
-        let lines = lines_of(self.text, start, end, floor);
+        let lines = lines_of(self.text, start, span, floor);
         if let Some(marker) = lines.marker {
             return Err(Stop::At(Fault::End, marker));
         }
@@ -109,7 +109,7 @@ impl Parser<'_> {
             self.note(Leniency::DoubleQuoted(start))?;
         }
         Ok(Scalar {
-            event: Event::new(Kind::DoubleQuoted, start, end.saturating_add(1)),
+            event: Event::new(Kind::DoubleQuoted, start, span.end.saturating_add(1)),
             is_one_line: lines.is_one,
         })
     }
@@ -129,6 +129,13 @@ impl Parser<'_> {
 
     // The anchor and the tag that are here, each once, and goes on after them.
     pub(crate) fn properties(&mut self, after: usize) -> Result<Properties, Stop> {
+        if !matches!(self.byte(), b'&' | b'!') {
+            return Ok(Properties::none(after));
+        }
+        self.pass_properties(after)
+    }
+
+    fn pass_properties(&mut self, after: usize) -> Result<Properties, Stop> {
         let mut own = Properties::none(after);
         for _ in 0..2 {
             if own.are_some() && self.is_line_over() {

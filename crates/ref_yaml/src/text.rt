@@ -1,16 +1,17 @@
 //! The texts that scalars are.
-ghost use Rattle.std.specs.Prelude.{◌≡◌, ◌+◌, ◌-◌, ◌↔◌, Some, All, IsTrue, IfOk, string_bytes, option_map};
-ghost use Rattle.ref_yaml.specs.Passing.{IsWithoutMark};
+ghost use Rattle.std.specs.Prelude.{◌≡◌, ◌+◌, ◌-◌, ◌↔◌, [], false, Some, All, IsTrue, IfOk, IfSome, string_bytes, option_map};
+ghost use Rattle.ref_yaml.specs.Block as spec_text;
+ghost use Rattle.ref_yaml.specs.Flow.{with_feeds, folded};
+ghost use Rattle.ref_yaml.specs.Passing.{IsWithoutMark, IsNoReturn};
 ghost use Rattle.ref_yaml.specs.Scalars as spec;
 ghost use Rattle.ref_yaml.specs.declared.event.Kind.TheVariants.{Plain, SingleQuoted, DoubleQuoted, Literal, Folded};
 
-use crate::block_scalar::header_at;
 use crate::escape::unescaped;
 use crate::event::{Event, Kind};
 use crate::fault::{Fault, Stop};
 use crate::feeds::{with_feeds, with_quotes};
 use crate::fold::folded;
-use crate::lines::{folded_text, literal_text};
+use crate::lines::{after_header, chomping_of, folded_text, literal_text};
 use std::alloc::{AllocError, Global};
 
 // The bytes from one offset to another.
@@ -33,6 +34,21 @@ fn is_one_line(source: &[u8], mark: u8) -> bool
         .all(|byte| *byte != b'\n' && *byte != b'\r' && *byte != mark)
 }
 
+// The text from one offset to another, where it has neither a line break nor this byte.
+pub(crate) fn line_of(text: &str, from: usize, to: usize, mark: u8) -> Option<&str>
+    ensures value { IfSome result (λ s. s.now ≡ spec.part text.now from to) }
+    ensures one_line { IfSome result (λ s. All (IsWithoutMark mark) s.now) }
+{
+    if from > to || to > text.len() {
+        return None;
+    }
+    let line = text.get(from..to)?;
+    if !is_one_line(line.as_bytes(), mark) {
+        return None;
+    }
+    Some(line)
+}
+
 // Bytes as they are.
 fn same_bytes(alloc: Global, source: &[u8]) -> Result<Vec<u8>, AllocError>
     ensures value { IfOk result (λ v. v.items ≡ source.now) }
@@ -42,6 +58,25 @@ fn same_bytes(alloc: Global, source: &[u8]) -> Result<Vec<u8>, AllocError>
     Ok(out)
 }
 
+// Whether bytes have no carriage return.
+fn is_without_returns(source: &[u8]) -> bool
+    ensures value { IsTrue result ↔ All IsNoReturn source.now }
+{
+    source.iter().all(|byte| *byte != b'\r')
+}
+
+// Lines that are folded, whatever breaks them.
+fn folded_lines(alloc: Global, source: &[u8], escapes: bool) -> Result<Vec<u8>, AllocError>
+    ensures value { IfOk result
+        (λ v. v.items ≡ folded escapes false [] 0 false (with_feeds false source.now)) }
+{
+    if is_without_returns(source) {
+        return folded(alloc, source, escapes);
+    }
+    let lines = with_feeds(alloc, source)?;
+    folded(alloc, lines.as_slice(), escapes)
+}
+
 // The text of a plain scalar.
 fn plain_text(alloc: Global, source: &[u8]) -> Result<Vec<u8>, AllocError>
     ensures value { IfOk result (λ v. v.items ≡ spec.plain_text source.now) }
@@ -49,17 +84,13 @@ fn plain_text(alloc: Global, source: &[u8]) -> Result<Vec<u8>, AllocError>
     if is_one_line(source, b'\n') {
         return same_bytes(alloc, source);
     }
-    let lines = with_feeds(alloc, source)?;
-    folded(alloc, lines.as_slice(), false)
+    folded_lines(alloc, source, false)
 }
 
 // The text of what is between single quotes.
 fn single_text(alloc: Global, source: &[u8]) -> Result<Vec<u8>, AllocError>
     ensures value { IfOk result (λ v. v.items ≡ spec.single_text source.now) }
 {
-    if is_one_line(source, b'\'') {
-        return same_bytes(alloc, source);
-    }
     let quoted = with_quotes(alloc, source)?;
     plain_text(alloc, quoted.as_slice())
 }
@@ -69,11 +100,7 @@ fn double_text(alloc: Global, source: &[u8]) -> Result<Option<Vec<u8>>, AllocErr
     ensures value { IfOk result
         (λ o. option_map (λ v. v.items) o ≡ spec.double_text source.now) }
 {
-    if is_one_line(source, b'\\') {
-        return Ok(Some(same_bytes(alloc, source)?));
-    }
-    let lines = with_feeds(alloc, source)?;
-    let joined = folded(alloc, lines.as_slice(), true)?;
+    let joined = folded_lines(alloc, source, true)?;
     unescaped(alloc, joined.as_slice())
 }
 
@@ -87,40 +114,95 @@ fn string_of(bytes: Vec<u8>, at: usize) -> Result<String, Stop>
     }
 }
 
+// The text of a plain event.
+fn plain_of(alloc: Global, text: &str, start: usize, end: usize) -> Result<String, Stop>
+    ensures value { IfOk result (λ s. string_bytes s
+        ≡ spec.plain_text (spec.part text.now start end)) }
+{
+    if let Some(line) = line_of(text, start, end, b'\n') {
+        return Ok(String::from_str(alloc, line)?);
+    }
+    string_of(plain_text(alloc, part(text, start, end))?, start)
+}
+
+// The text of an event in single quotes.
+fn single_of(alloc: Global, text: &str, start: usize, end: usize) -> Result<String, Stop>
+    ensures value { IfOk result (λ s. string_bytes s
+        ≡ spec.single_text (spec.part text.now start end)) }
+{
+    if let Some(line) = line_of(text, start, end, b'\'') {
+        return Ok(String::from_str(alloc, line)?);
+    }
+    string_of(single_text(alloc, part(text, start, end))?, start)
+}
+
 // The text of an event in double quotes.
 fn double_of(alloc: Global, text: &str, start: usize, end: usize) -> Result<String, Stop>
     ensures value { IfOk result (λ s.
         spec.double_text (spec.part text.now start end) ≡ Some (string_bytes s)) }
 {
+    if let Some(line) = line_of(text, start, end, b'\\') {
+        return Ok(String::from_str(alloc, line)?);
+    }
     match double_text(alloc, part(text, start, end))? {
         Some(bytes) => string_of(bytes, start),
         None => Err(Stop::At(Fault::Escape, start)),
     }
 }
 
+// The text of a body after `|`, whatever breaks its lines.
+fn literal_lines(
+    alloc: Global,
+    body: &[u8],
+    indent: usize,
+    chomping: u8,
+) -> Result<Vec<u8>, AllocError>
+    ensures value { IfOk result
+        (λ v. v.items ≡ spec_text.literal_text chomping indent (with_feeds false body.now)) }
+{
+    if is_without_returns(body) {
+        return literal_text(alloc, body, indent, chomping);
+    }
+    let lines = with_feeds(alloc, body)?;
+    literal_text(alloc, lines.as_slice(), indent, chomping)
+}
+
+// The text of a body after `>`, whatever breaks its lines.
+fn folded_body(
+    alloc: Global,
+    body: &[u8],
+    indent: usize,
+    chomping: u8,
+) -> Result<Vec<u8>, AllocError>
+    ensures value { IfOk result
+        (λ v. v.items ≡ spec_text.folded_text chomping indent (with_feeds false body.now)) }
+{
+    if is_without_returns(body) {
+        return folded_text(alloc, body, indent, chomping);
+    }
+    let lines = with_feeds(alloc, body)?;
+    folded_text(alloc, lines.as_slice(), indent, chomping)
+}
+
 // The text of a literal event.
 fn literal_of(alloc: Global, text: &str, event: &Event) -> Result<String, Stop>
-    ensures value { IfOk result
-        (λ s. spec.IsLiteral text.now event.now.link event.now.end (string_bytes s)) }
+    ensures value { IfOk result (λ s. spec.IsLiteral text.now
+        event.now.start event.now.end event.now.link (string_bytes s)) }
 {
-    let Some(header) = header_at(text, event.start) else {
-        return Err(Stop::At(Fault::Header, event.start));
-    };
-    let lines = with_feeds(alloc, part(text, header.body, event.end))?;
-    let bytes = literal_text(alloc, lines.as_slice(), event.link, header.chomping)?;
+    let source = part(text, event.start, event.end);
+    let chomping = chomping_of(source);
+    let bytes = literal_lines(alloc, after_header(source), event.link, chomping)?;
     string_of(bytes, event.start)
 }
 
 // The text of a folded event.
 fn folded_of(alloc: Global, text: &str, event: &Event) -> Result<String, Stop>
-    ensures value { IfOk result
-        (λ s. spec.IsFolded text.now event.now.link event.now.end (string_bytes s)) }
+    ensures value { IfOk result (λ s. spec.IsFolded text.now
+        event.now.start event.now.end event.now.link (string_bytes s)) }
 {
-    let Some(header) = header_at(text, event.start) else {
-        return Err(Stop::At(Fault::Header, event.start));
-    };
-    let lines = with_feeds(alloc, part(text, header.body, event.end))?;
-    let bytes = folded_text(alloc, lines.as_slice(), event.link, header.chomping)?;
+    let source = part(text, event.start, event.end);
+    let chomping = chomping_of(source);
+    let bytes = folded_body(alloc, after_header(source), event.link, chomping)?;
     string_of(bytes, event.start)
 }
 
@@ -133,9 +215,9 @@ pub(crate) fn text_of(alloc: Global, text: &str, event: &Event) -> Result<String
     ensures double { IfOk result (λ s. event.now.kind ≡ DoubleQuoted → Some (string_bytes s)
         ≡ spec.double_text (spec.part text.now (event.now.start + 1) (event.now.end - 1))) }
     ensures literal { IfOk result (λ s. event.now.kind ≡ Literal
-        → spec.IsLiteral text.now event.now.link event.now.end (string_bytes s)) }
+        → spec.IsLiteral text.now event.now.start event.now.end event.now.link (string_bytes s)) }
     ensures folded { IfOk result (λ s. event.now.kind ≡ Folded
-        → spec.IsFolded text.now event.now.link event.now.end (string_bytes s)) }
+        → spec.IsFolded text.now event.now.start event.now.end event.now.link (string_bytes s)) }
 {
     if event.start > event.end || event.end > text.len() {
         return Err(Stop::At(Fault::Offsets, event.start));
@@ -143,14 +225,8 @@ pub(crate) fn text_of(alloc: Global, text: &str, event: &Event) -> Result<String
     let inner = event.start + 1;
     let end = event.end.saturating_sub(1);
     match event.kind {
-        Kind::Plain => {
-            let bytes = plain_text(alloc, part(text, event.start, event.end))?;
-            string_of(bytes, event.start)
-        }
-        Kind::SingleQuoted => {
-            let bytes = single_text(alloc, part(text, inner, end))?;
-            string_of(bytes, inner)
-        }
+        Kind::Plain => plain_of(alloc, text, event.start, event.end),
+        Kind::SingleQuoted => single_of(alloc, text, inner, end),
         Kind::DoubleQuoted => double_of(alloc, text, inner, end),
         Kind::Literal => literal_of(alloc, text, event),
         Kind::Folded => folded_of(alloc, text, event),

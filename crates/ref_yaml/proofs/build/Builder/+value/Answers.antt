@@ -28,7 +28,7 @@ array-returns-clause-tree t c plain begins =
 
 pub member-returns-clause-tree : goal.member-returns-clause-tree
 member-returns-clause-tree t c es found =
-    let new : get_member (string_bytes c.in_ok-name.name) (members_view c.args.members.now.entries) ≡ None = is_none _ (grind (arith, c.as_str.ensures.value)) in
+    let new : get_member (string_bytes c.in_ok-name.name) (members_view c.args.members.now.entries) ≡ None = is_none _ (grind (arith, common_steps)) in
     let marked : c.in_ok-key.key.is_key ≡ true = grind (arith, common_steps) in
     member_more c.args.self.now.text.now es _ _ _ _ _ c.in_ok-key.key (string_bytes c.in_ok-name.name) (view c.in_ok-value.value) c.in_ok-insert.ensures.value c.in_ok-key.ensures.value found
     marked c.in_ok-name.ensures.value new c.in_ok-value.ensures.tree
