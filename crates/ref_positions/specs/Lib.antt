@@ -1,3 +1,5 @@
 pub mod Formats
 pub mod Lines
+pub mod Paths
+pub mod Places
 pub mod Rows

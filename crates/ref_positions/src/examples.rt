@@ -1,10 +1,11 @@
 //! Rows of the definitions. Each function is empty: its contract states rows, and the check computes them.
 #![tactic(auto)]
 
-ghost use Rattle.std.specs.Prelude.{◌≡◌, [], ◌∷◌, true, false, codes};
+ghost use Rattle.std.specs.Prelude.{◌≡◌, [], ◌∷◌, Some, None, true, false, codes};
 ghost use Rattle.ref_positions.specs.Lines.{begins_character, next_line, next_column, next_unit, line_of, column_of, unit_of, units_of, IsAt};
 ghost use Rattle.ref_positions.specs.declared.format.Format.TheVariants.{Json, Yaml};
 ghost use Rattle.ref_positions.specs.Formats.{format_of};
+ghost use Rattle.ref_positions.specs.Paths.{member, item, below, number_of};
 ghost use Rattle.ref_positions.specs.Rows.{letters};
 
 /// The bytes that begin a character, and those that go on with one (RFC 3629, 3).
@@ -67,4 +68,16 @@ pub fn places()
     ensures another_line { ¬ (IsAt (97 ∷ 10 ∷ 98 ∷ []) 3 1 2) }
     ensures another_column { ¬ (IsAt (97 ∷ 10 ∷ 98 ∷ []) 3 2 1) }
     ensures beyond { ¬ (IsAt (97 ∷ []) 2 1 2) }
+{}
+
+/// Which number stands for a path, and the path that is a step below that of a number.
+pub fn paths()
+    ensures whole { number_of (Some [] ∷ []) [] ≡ Some 0 }
+    ensures first { number_of (Some [] ∷ Some (item 0 ∷ []) ∷ []) (item 0 ∷ []) ≡ Some 1 }
+    ensures key { number_of (Some (member (codes "a") ∷ []) ∷ []) (member (codes "a") ∷ []) ≡ Some 0 }
+    ensures other_key { number_of (Some (member (codes "a") ∷ []) ∷ []) (member (codes "b") ∷ []) ≡ None }
+    ensures index { number_of (Some (member (codes "0") ∷ []) ∷ []) (item 0 ∷ []) ≡ None }
+    ensures none_before { number_of (None ∷ Some [] ∷ []) [] ≡ Some 1 }
+    ensures step { below (Some (item 1 ∷ []) ∷ []) 0 (item 2) ≡ Some (item 2 ∷ item 1 ∷ []) }
+    ensures no_number { below (Some [] ∷ []) 7 (item 2) ≡ None }
 {}

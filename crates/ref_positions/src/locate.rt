@@ -87,7 +87,7 @@ impl Places {
     // Leaves out what was found in a member whose key came again after it.
     fn leave_last(&self, found: &mut Vec<Found>) {
         for number in 1..found.len() {
-            let above = self.above.get(number).copied().unwrap_or(0);
+            let above = self.above(number);
             let within = match found.get(above) {
                 Some(parent) => parent.value,
                 None => None,

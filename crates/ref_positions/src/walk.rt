@@ -38,7 +38,7 @@ impl<'p> Walk<'p> {
             value: None,
             within: None,
         };
-        let found = vec![in alloc; nothing; places.above.len()]?;
+        let found = vec![in alloc; nothing; places.len()]?;
         Ok(Walk {
             places,
             found,
@@ -161,8 +161,7 @@ impl<'p> Walk<'p> {
 
     // Where the value is that a place is below.
     fn start_above(&self, number: usize) -> Option<usize> {
-        let above = self.places.above.get(number)?;
-        self.found.get(*above)?.value
+        self.found.get(self.places.above(number))?.value
     }
 }
 
