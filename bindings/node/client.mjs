@@ -41,7 +41,7 @@ export class Patchsard {
                 const answer = await this.call("open", { documents, remote: [...remote], parent: parent?.number, ...members });
                 return new Registry(this, answer.registry, this.#values(answer, documents, remote), parent);
             } catch (error) {
-                if (!retrieve || !error.uri || remote.has(error.uri)) throw error;
+                if (!retrieve || !error.kind || remote.has(error.uri)) throw error;
                 remote.set(error.uri, await this.#read(await retrieve(error.uri)));
             }
         }

@@ -1,6 +1,7 @@
 """References of JSON Schema, resolved by the program patchsard, with the names of Python's `referencing`."""
 from patchsard import exceptions, jsonschema
 from patchsard._core import Anchor, Dangling, Draft, Registry, Resolved, Resolver, Resource, Retrieved, from_yaml
+from patchsard._lint import Finding, Findings, Place, lint
 from patchsard.exceptions import (
     CallRefused,
     CallTimedOut,
@@ -13,6 +14,7 @@ from patchsard.exceptions import (
     NoSuchAnchor,
     NoSuchResource,
     NotBundled,
+    NotLinted,
     NotYaml,
     PatchsardError,
     PointerToNowhere,
@@ -33,6 +35,8 @@ __all__ = [
     "CannotDetermineSpecification",
     "Dangling",
     "Draft",
+    "Finding",
+    "Findings",
     "InvalidAnchor",
     "InvalidArrayIndex",
     "InvalidPercentEncoding",
@@ -41,8 +45,10 @@ __all__ = [
     "NoSuchAnchor",
     "NoSuchResource",
     "NotBundled",
+    "NotLinted",
     "NotYaml",
     "PatchsardError",
+    "Place",
     "PointerToNowhere",
     "ProcessEnded",
     "ProgramNotFound",
@@ -58,4 +64,5 @@ __all__ = [
     "exceptions",
     "from_yaml",
     "jsonschema",
+    "lint",
 ]

@@ -323,6 +323,14 @@ def _refused(error: CallRefused, *documents: Dict[str, str]) -> CallRefused:
     return error
 
 
+def _at_place(error: Exception, told: Dict[str, Any], texts: Dict[str, str], remote: Dict[str, str]) -> Exception:
+    """The exception for an error of `open`, with the document and the place that the program tells."""
+    if isinstance(error, Unresolvable) and "pointer" in told:
+        among = remote if told.get("field") == "remote" else texts
+        error.document, error.pointer = list(among)[told["document"]], told["pointer"]
+    return error
+
+
 _REASONS = {
     "depth": "nests more than 124 levels",
     "number": "has a number beyond the range of a double",
@@ -712,15 +720,15 @@ class Registry(Mapping[str, Resource]):
             answer = process.ask(_sent(f'{head},"documents":[{_listed(texts)}],"remote":[{_listed(remote)}]}}\n', texts, remote), self._timeout)
             if "error" not in answer:
                 break
-            error = from_answer(answer["error"], answer["error"].get("uri", ""))
+            error = _at_place(from_answer(answer["error"], answer["error"].get("uri", "")), answer["error"], texts, remote)
             if isinstance(error, InvalidUri) and self._allow_missing and self._are_mended(process, texts, remote):
                 continue
             if isinstance(error, CallRefused):
                 raise _refused(error, texts, remote)
             if not isinstance(error, Unretrievable) or error.uri is None or error.uri in remote:
-                raise self._placed(process, error, texts, remote)
+                raise error
             if self._retrieve is None and not self._allow_missing:
-                raise self._placed(process, error, texts, remote)
+                raise error
             retrieved[error.uri], remote[error.uri] = self._retrieved_or_missing(error)
             rounds += 1
             if rounds == _ROUNDS:
@@ -754,16 +762,6 @@ class Registry(Mapping[str, Resource]):
                 _at(tree, fault["pointer"])[fault["keyword"]] = None
             among[uri] = _encode(tree)
         return bool(faulty)
-
-    def _placed(self, process: _process.Process, error: Exception, texts: Dict[str, str], remote: Dict[str, str]) -> Exception:
-        """The error of `open`, with the document and the place that have the fault, where that is found."""
-        if isinstance(error, Unresolvable):
-            for uri, fault in self._faults(process, texts, remote):
-                found = from_answer(fault["error"], "")
-                if type(found) is type(error) and (found.message == error.message if isinstance(error, InvalidUri) else getattr(found, "uri", None) == getattr(error, "uri", "")):
-                    error.document, error.pointer = uri, fault["pointer"]
-                    break
-        return error
 
     def _members(self, parent: Optional[_Opened]) -> str:
         """The begin of a call `open`."""

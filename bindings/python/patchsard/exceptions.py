@@ -1,7 +1,7 @@
 """What can go wrong. The classes of the program's errors have the names that its protocol gives them."""
 from __future__ import annotations
 
-from typing import Any, Dict, Optional, Type
+from typing import Any, Dict, Optional, Sequence, Type
 
 
 class PatchsardError(Exception):
@@ -68,13 +68,21 @@ class UnknownSpecification(Unretrievable):
 
 
 class RetrievalLimit(Unresolvable):
-    """The documents want more documents than the registry's `limit` allows. `ref` is empty: it is no one reference's fault."""
+    """The documents want more documents than the registry's `limit` allows. `uri` is the first that is wanted beyond it, where it is known; `ref` is empty: it is no one reference's fault."""
+
+    uri: Optional[str] = None
 
 
 class NotBundled(PatchsardError):
     """The document can't be written as one with all that it needs. `reason` is the name of what is in the way."""
 
     reason: Optional[str] = None
+
+
+class NotLinted(PatchsardError, ValueError):
+    """Files can't be linted as asked: a path can't be read, or an option is wrong. The text is what the program said; `findings` are those of the files that it read all the same."""
+
+    findings: Sequence[Any] = ()
 
 
 class NotYaml(PatchsardError, ValueError):
@@ -117,7 +125,7 @@ class ProcessEnded(PatchsardError, RuntimeError):
 
 
 class CallTimedOut(PatchsardError, TimeoutError):
-    """The program took longer for a call than the registry's `timeout`, and was ended. The next call starts another."""
+    """The program took longer for a call than the `timeout` of the registry, or of `lint`, and was ended. The next call starts another."""
 
 
 class ProgramNotFound(PatchsardError, RuntimeError):
@@ -126,8 +134,8 @@ class ProgramNotFound(PatchsardError, RuntimeError):
 
 class CallRefused(PatchsardError, ValueError):
     """The program takes a call, or a document in it, for malformed. `name` is the name of the error in the protocol; `field` is the member of the call that it is about,
-    `index` the number of the item there, and `offset` the byte of the line, where the program says them. Where a document can't be sent, `document` is its URI and `reason` says
-    why: `"depth"`, `"number"` or `"surrogate"`.
+    `index` the number of the item there, `offset` the byte of the line, and `reason` why a line is no JSON, where the program says them. Where a document can't be sent, `document` is its
+    URI and `reason` is `"depth"`, `"number"` or `"surrogate"`.
     """
 
     document: Optional[str] = None
@@ -163,7 +171,9 @@ def from_answer(error: Dict[str, Any], ref: str) -> Exception:
             found.field, found.index = error.get("field"), error.get("index")
         return found
     if name == "RetrievalLimit":
-        return RetrievalLimit("", message)
+        limited = RetrievalLimit("", message)
+        limited.uri = error.get("uri")
+        return limited
     if name == "NotBundled":
         refused = NotBundled(message)
         refused.reason = error.get("reason")
@@ -171,5 +181,5 @@ def from_answer(error: Dict[str, Any], ref: str) -> Exception:
     if name == "OutOfMemory":
         return MemoryError(message)
     malformed = CallRefused(name, message)
-    malformed.field, malformed.index, malformed.offset = error.get("field"), error.get("index"), error.get("offset")
+    malformed.field, malformed.index, malformed.offset, malformed.reason = error.get("field"), error.get("index"), error.get("offset"), error.get("reason")
     return malformed

@@ -442,8 +442,10 @@ class Retrieval(unittest.TestCase):
 
     def test_the_limit(self):
         chain = Registry(retrieve=lambda uri: {"$ref": uri + "x"}, limit=3).with_resource("https://example.com/a", {"$ref": "b"})
-        with self.assertRaises(patchsard.RetrievalLimit):
+        with self.assertRaises(patchsard.RetrievalLimit) as raised:
             chain.crawl()
+        error = raised.exception
+        self.assertEqual((error.uri, error.document, error.pointer), ("https://example.com/bxxx", "https://example.com/bxx", ""))
 
 
 class Faults(unittest.TestCase):
@@ -467,6 +469,13 @@ class Faults(unittest.TestCase):
             error = self.refused(schema)
             self.assertEqual((type(error), error.pointer), (kind, pointer))
             self.assertIn("https://example.com/faulty", str(error))
+
+    def test_where_in_a_retrieved_document(self):
+        retrieved = {"https://example.com/r": {"not": {"$ref": "a b"}}, "https://example.com/s": {"items": {"$ref": "nowhere"}}}
+        for uri, kind, pointer in (("https://example.com/r", patchsard.InvalidUri, "/not"), ("https://example.com/s", patchsard.Unretrievable, "/items")):
+            with self.assertRaises(kind) as raised:
+                Registry({**self.SOUND, "https://example.com/q": {"$ref": uri}}, retrieve=retrieved.get).crawl()
+            self.assertEqual((raised.exception.document, raised.exception.pointer), (uri, pointer))
 
     def test_what_can_not_be_sent(self):
         deep = True

@@ -2,3 +2,4 @@ pub mod Further
 pub mod Documents
 pub mod OnLiterals
 pub mod InYaml
+pub mod Texts

@@ -12,6 +12,8 @@ use Rattle.ref_json.specs.declared.stop.Stop.{Stop}
 use Rattle.ref_json.specs.declared.stop.Stop.TheVariants.{Memory}
 use Rattle.ref_calls.specs.Outcome.{IsStop}
 use Rattle.ref_calls.specs.Objects.{object_of, whole}
+use Rattle.ref_calls.specs.declared.why.NotJson.{NotJson}
+use Rattle.ref_calls.specs.Why.{reason_name, reason_text}
 
 -- an error's name and message
 abbrev pub error_members : List ℕ → List ℕ → List (List ℕ × Data)
@@ -21,14 +23,14 @@ error_members name message = (codes "name", string name) ∷ (codes "message", s
 abbrev pub plain_error : List ℕ → List ℕ → Data
 plain_error name message = object_of (error_members name message)
 
--- the error of a line that is no JSON, with the place where it can't be read, in bytes
-abbrev pub not_json_members : ℕ → List (List ℕ × Data)
-not_json_members offset =
-    error_members (codes "NotJson") (codes "The line is no JSON") ++ (codes "offset", whole offset)
-    ∷ []
+-- the error of a line that is no JSON: why, and the place where it can't be read, in bytes
+abbrev pub not_json_members : NotJson → ℕ → List (List ℕ × Data)
+not_json_members reason offset =
+    error_members (codes "NotJson") (reason_text reason)
+    ++ (codes "reason", string (reason_name reason)) ∷ (codes "offset", whole offset) ∷ []
 
-unfoldable pub not_json : ℕ → Data
-not_json offset = object_of (not_json_members offset)
+unfoldable pub not_json : NotJson → ℕ → Data
+not_json reason offset = object_of (not_json_members reason offset)
 
 -- the error of a text that isn't read as YAML: what is wrong, by the name of the fault, and where, in bytes of the text
 abbrev pub not_yaml_members : List ℕ → ℕ → List (List ℕ × Data)
@@ -101,15 +103,20 @@ fault_name (UnknownSpecification uri) = codes "UnknownSpecification"
 fault_name (CircularMetaschema uri) = codes "CircularMetaschema"
 fault_name (RetrievalLimit uri limit) = codes "RetrievalLimit"
 
--- the document that is wanted and isn't there: its URI, and by what it is wanted
-abbrev pub wanted_document : Fault → Option (List ℕ × List ℕ)
-wanted_document (Unretrievable uri source) = Some (uri, codes "reference")
-wanted_document (UnknownSpecification uri) = Some (uri, codes "meta-schema")
+-- the document that is wanted and isn't there: its URI, and by what it is wanted; where the limit is reached the first is told
+abbrev pub wanted_document : Fault → Option (List ℕ × Option (List ℕ))
+wanted_document (Unretrievable uri source) = Some (uri, Some (codes "reference"))
+wanted_document (UnknownSpecification uri) = Some (uri, Some (codes "meta-schema"))
+wanted_document (RetrievalLimit uri limit) = Some (uri, None)
 wanted_document other = None
 
-abbrev pub wanted_members : Option (List ℕ × List ℕ) → List (List ℕ × Data)
+abbrev pub kind_member : Option (List ℕ) → List (List ℕ × Data)
+kind_member None = []
+kind_member (Some kind) = (codes "kind", string kind) ∷ []
+
+abbrev pub wanted_members : Option (List ℕ × Option (List ℕ)) → List (List ℕ × Data)
 wanted_members None = []
-wanted_members (Some w) = (codes "uri", string w.0) ∷ (codes "kind", string w.1) ∷ []
+wanted_members (Some w) = (codes "uri", string w.0) ∷ kind_member w.1
 
 -- the members of a fault's error
 abbrev pub fault_members : Fault → List (List ℕ × Data)

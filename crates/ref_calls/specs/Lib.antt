@@ -5,4 +5,5 @@ pub mod Calls
 pub mod Given
 pub mod Rows
 pub mod Yaml
+pub mod Why
 pub mod inner

@@ -14,6 +14,9 @@ ghost use Rattle.ref_calls.specs.Yaml.{yaml_document, with_value, IsItemRead, va
 ghost use Rattle.ref_calls.specs.Errors.{not_json, not_yaml, field_error, with_field, with_index, fault_error, fault_name, wanted_document};
 ghost use Rattle.ref_calls.specs.Objects.{answer_of, object_of, texts, whole};
 ghost use Rattle.ref_calls.specs.Rows.{call, call_with, told};
+ghost use Rattle.json.specs.Token.{begin_object, begin_array, end_array, bad};
+ghost use Rattle.ref_calls.specs.declared.why.NotJson.TheVariants.{Encoding, Depth, Number, Surrogate, Syntax};
+ghost use Rattle.ref_calls.specs.Why.{why, is_deep};
 
 /// Which call an object is.
 pub fn calls()
@@ -132,10 +135,25 @@ pub fn documents_in_yaml()
     ensures shown { value_object yes ≡ one "value" yes }
 {}
 
+/// Why lines are no JSON (RFC 8259, 2, 6, 7 and 8.1).
+pub fn reasons()
+    ensures encoding { why (34 ∷ 255 ∷ 34 ∷ []) ≡ Encoding }
+    ensures empty { why [] ≡ Syntax }
+    ensures not_closed { why (codes "{\"a\":") ≡ Syntax }
+    ensures number { why (codes "[1e400]") ≡ Number }
+    ensures surrogate { why (codes "\"\\ud800\"") ≡ Surrogate }
+    ensures no_pair { why (codes "\"\\uDC00x\"") ≡ Surrogate }
+    ensures surrogate_and_more { why (codes "\"\\ud800\" x") ≡ Syntax }
+    ensures most { is_deep 126 (begin_array ∷ end_array ∷ begin_object ∷ []) ≡ false }
+    ensures deeper { is_deep 127 (end_array ∷ begin_array ∷ begin_object ∷ []) ≡ true }
+    ensures after_a_fault { is_deep 127 (bad ∷ []) ≡ false }
+{}
+
 /// The objects of errors.
 pub fn errors()
-    ensures no_json { get (codes "name") (not_json 5) ≡ Some (text "NotJson") }
-    ensures offset { get (codes "offset") (not_json 5) ≡ Some (whole_number 5) }
+    ensures no_json { get (codes "name") (not_json Depth 5) ≡ Some (text "NotJson") }
+    ensures why { get (codes "reason") (not_json Depth 5) ≡ Some (text "depth") }
+    ensures offset { get (codes "offset") (not_json Depth 5) ≡ Some (whole_number 5) }
     ensures unknown { get (codes "name") (field_error UnknownField (codes "a"))
         ≡ Some (text "UnknownField") }
     ensures missing { get (codes "name") (field_error MissingField (codes "a"))
@@ -158,6 +176,11 @@ pub fn errors()
     ensures no_anchor { fault_name (InvalidAnchor (codes "x/y")) ≡ codes "InvalidAnchor" }
     ensures limit { fault_name (RetrievalLimit (codes "http://a/b") 0) ≡ codes "RetrievalLimit" }
     ensures wanted_by_no_one { wanted_document (NoSuchAnchor (codes "x")) ≡ None }
+    ensures wanted_beyond_the_limit { get (codes "uri")
+        (fault_error (RetrievalLimit (codes "http://a/b") 3))
+        ≡ Some (text "http://a/b") }
+    ensures no_kind { get (codes "kind") (fault_error (RetrievalLimit (codes "http://a/b") 3))
+        ≡ None }
     ensures uri_of_a_meta_schema { get (codes "uri")
         (fault_error (UnknownSpecification (codes "http://a/m")))
         ≡ Some (text "http://a/m") }

@@ -9,6 +9,7 @@ ghost use Rattle.ref_calls.specs.Errors as spec;
 ghost use Rattle.ref_calls.specs.Outcome.{IsStop, IsChanged};
 
 use crate::members::{Members, put_number, put_text};
+use crate::why::NotJson;
 use ref_error::Error;
 use ref_error::laws::errors_say_faults;
 use ref_json::Stop;
@@ -74,21 +75,23 @@ pub fn plain_error(alloc: Global, name: &str, message: &str) -> Stop<Value>
     }
 }
 
-fn not_json_members(alloc: Global, offset: usize) -> Result<Members, AllocError>
+fn not_json_members(alloc: Global, reason: NotJson, offset: usize) -> Result<Members, AllocError>
     ensures { IfOk result
-        (λ m. members_view m.entries ≡ with_all (spec.not_json_members offset) no_members) }
+        (λ m. members_view m.entries
+        ≡ with_all (spec.not_json_members reason offset) no_members) }
 {
-    let mut members = error_members(alloc, "NotJson", "The line is no JSON")?;
+    let mut members = error_members(alloc, "NotJson", reason.text())?;
+    put_text(alloc, &mut members, "reason", reason.name())?;
     put_number(alloc, &mut members, "offset", offset)?;
     Ok(members)
 }
 
-/// The error of a line that is no JSON, with the place where it can't be read, in bytes.
+/// The error of a line that is no JSON: why, and the place where it can't be read, in bytes.
 #[tactic(auto, unfolding(crate::specs::Errors::not_json))]
-pub fn not_json(alloc: Global, offset: usize) -> Stop<Value>
-    ensures { IsStop result (spec.not_json offset) }
+pub fn not_json(alloc: Global, reason: NotJson, offset: usize) -> Stop<Value>
+    ensures { IsStop result (spec.not_json reason offset) }
 {
-    match not_json_members(alloc, offset) {
+    match not_json_members(alloc, reason, offset) {
         Ok(members) => Stop::Because(Value::Object(members)),
         Err(_) => Stop::Memory,
     }
@@ -117,8 +120,8 @@ pub fn not_yaml(alloc: Global, reason: &str, offset: usize) -> Stop<Value>
     }
 }
 
-// Puts one more member into an error.
-fn put_member(alloc: Global, error: Value, key: &str, value: Value) -> Result<Value, AllocError>
+/// An error with one more member.
+pub fn put_member(alloc: Global, error: Value, key: &str, value: Value) -> Result<Value, AllocError>
     ensures { IfOk result (λ d. view d ≡ spec.with_member key.now (view value) (view error)) }
 {
     match error {
@@ -201,17 +204,31 @@ fn name_of(error: &Error) -> &'static str
     }
 }
 
-// The document that is wanted and isn't there: its URI, and by what it is wanted.
-fn wanted_of(error: &Error) -> Option<(&str, &'static str)>
+// The document that is wanted and isn't there: its URI, and by what it is wanted, where that is told.
+fn wanted_of(error: &Error) -> Option<(&str, Option<&'static str>)>
     ensures { (fault : Fault) → SaysFault error.now fault
-        → option_map (λ w. (w.0.now, w.1.now)) result ≡ spec.wanted_document fault }
+        → option_map (λ w. (w.0.now, option_map (λ k. k.now) w.1)) result
+        ≡ spec.wanted_document fault }
 {
     match error {
-        Error::Unretrievable { uri, .. } => Some((uri.as_str(), "reference")),
+        Error::Unretrievable { uri, .. } => Some((uri.as_str(), Some("reference"))),
         Error::UnknownSpecification { specification } => {
-            Some((specification.as_str(), "meta-schema"))
+            Some((specification.as_str(), Some("meta-schema")))
         }
+        Error::RetrievalLimit { uri, .. } => Some((uri.as_str(), None)),
         _ => None,
+    }
+}
+
+// Puts by what it is wanted, where that is told.
+fn put_kind(alloc: Global, members: &mut Members, kind: Option<&str>) -> Result<(), AllocError>
+    ensures { OnOk result (members_view members.new.entries
+        ≡ with_all (spec.kind_member (option_map (λ k. k.now) kind.entry))
+        (members_view members.old.entries)) }
+{
+    match kind {
+        Some(kind) => put_text(alloc, members, "kind", kind),
+        None => Ok(()),
     }
 }
 
@@ -225,7 +242,7 @@ fn put_wanted(alloc: Global, members: &mut Members, error: &Error) -> Result<(),
     match wanted_of(error) {
         Some((uri, kind)) => {
             put_text(alloc, members, "uri", uri)?;
-            put_text(alloc, members, "kind", kind)
+            put_kind(alloc, members, kind)
         }
         None => Ok(()),
     }

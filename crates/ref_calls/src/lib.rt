@@ -11,8 +11,10 @@ pub mod examples;
 pub mod fault;
 pub mod field;
 pub mod members;
+pub mod why;
 pub mod yaml;
 
 pub use call::{Call, call_names, call_of};
 pub use fault::Wrong;
 pub use members::Members;
+pub use why::NotJson;

@@ -9,4 +9,5 @@ pub mod Replying
 pub mod TextsRead
 pub mod Steps
 pub mod OpeningReads
+pub mod PlacesTold
 pub mod OnLiterals

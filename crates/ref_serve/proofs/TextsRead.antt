@@ -10,17 +10,17 @@ use Rattle.ref_calls.specs.Yaml.{HasValues, IsCallRead}
 use Rattle.ref_serve.specs.declared.opening.Opened.{Opened}
 use Rattle.ref_serve.specs.State.{Registries}
 use Rattle.ref_serve.specs.Faults.{faults_result}
-use Rattle.ref_serve.specs.Answering.{IsOpened, IsOpen, IsFaults}
+use Rattle.ref_serve.specs.Answering.{IsOpened, IsOpening, IsFaults}
 use Rattle.ref_serve.specs.inner.Openings.{GivesOpened}
 
-pub opened_read : (state : Registries) (d e : Data) (result : Result Opened (Stop Value)) → HasValues d e → GivesOpened (IsOpened state e) state result → GivesOpened (IsOpen state d) state result
-unfolding IsOpen
+pub opened_read : (state : Registries) (d e : Data) (result : Result Opened (Stop Value)) → HasValues d e → GivesOpened (IsOpened state e) state result → GivesOpened (IsOpening state d) state result
+unfolding IsOpening
 opened_read state d e (Ok opened) values given = (Ok e, values, given)
 opened_read state d e (Err Memory) values given = tt
 opened_read state d e (Err (Because value)) values given = (Ok e, values, given)
 
-pub unopened : (state : Registries) (d : Data) (stop : Stop Value) → Gives (IsCallRead d) (Err stop) → GivesOpened (IsOpen state d) state (Err stop)
-unfolding IsOpen
+pub unopened : (state : Registries) (d : Data) (stop : Stop Value) → Gives (IsCallRead d) (Err stop) → GivesOpened (IsOpening state d) state (Err stop)
+unfolding IsOpening
 unopened state d Memory given = tt
 unopened state d (Because value) given = (Err (view value), given, (refl, refl))
 

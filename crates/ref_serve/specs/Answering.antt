@@ -6,6 +6,7 @@ use Rattle.ref_calls.specs.declared.call.Call.{Call}
 use Rattle.ref_calls.specs.declared.call.Call.TheVariants.{Hello, Uri, DraftOf, Yaml, Faults, Open, Lookup, Recursive, Enter, Follow, Places, References, Dangling, Vocabularies, Bundle, Close}
 use Rattle.ref_calls.specs.Objects.{object_of, answer_of, IsLineOf}
 use Rattle.ref_calls.specs.Errors.{not_json}
+use Rattle.ref_calls.specs.Why.{why}
 use Rattle.ref_json.specs.Text.{tree_of}
 use Rattle.ref_calls.specs.Calls.{call_of}
 use Rattle.ref_definitions.specs.Results.{◌>>=◌}
@@ -15,6 +16,7 @@ use Rattle.ref_serve.specs.Results.{IsLookup, IsRecursiveCall, enter_result}
 use Rattle.ref_serve.specs.Following.{IsFollow}
 use Rattle.ref_serve.specs.About.{hello_result, uri_result, draft_result}
 use Rattle.ref_serve.specs.Faults.{faults_result}
+use Rattle.ref_serve.specs.Where.{placed}
 use Rattle.ref_calls.specs.Yaml.{IsCallRead, IsYaml}
 use Rattle.ref_serve.specs.References.{IsReferences}
 use Rattle.ref_serve.specs.Listings.{places_result, dangling_result, vocabularies_result, bundle_result}
@@ -51,9 +53,24 @@ abbrev pub IsOpenedRead : Registries → Result Data Data → Registries → Res
 IsOpenedRead state (Ok e) next outcome = IsOpened state e next outcome
 IsOpenedRead state (Err error) next outcome = (outcome ≡ Err error) × (next ≡ state)
 
+unfoldable pub IsOpening : Registries → Data → Registries → Result Data Data → Type 0
+IsOpening state d next outcome =
+    (read : Result Data Data) × IsCallRead d read × IsOpenedRead state read next outcome
+
+-- an error with its place in the documents of the call, as they are read
+abbrev pub placed_read : Result Data Data → Data → Data
+placed_read (Ok e) error = placed e error
+placed_read (Err other) error = error
+
+abbrev pub IsPlaced : Data → Result Data Data → Result Data Data → Type 0
+IsPlaced d (Ok result) outcome = outcome ≡ Ok result
+IsPlaced d (Err error) outcome =
+    (read : Result Data Data) × IsCallRead d read × (outcome ≡ Err (placed_read read error))
+
+-- the same, whose errors have their place
 unfoldable pub IsOpen : Registries → Data → Registries → Result Data Data → Type 0
 IsOpen state d next outcome =
-    (read : Result Data Data) × IsCallRead d read × IsOpenedRead state read next outcome
+    (opened : Result Data Data) × IsOpening state d next opened × IsPlaced d opened outcome
 
 -- a registry is closed, and the result has no members
 abbrev pub IsClosed : Registries → Registries → ℕ → Result Data Data → Type 0
@@ -77,11 +94,11 @@ abbrev pub IsReplyTo : Result Call Data → Registries → Data → Registries �
 IsReplyTo (Ok call) state d next outcome = IsReply call state d next outcome
 IsReplyTo (Err error) state d next outcome = (outcome ≡ Err error) × (next ≡ state)
 
--- the line of the error of a line that is no JSON, with a byte of it or its end as the place
+-- the line of the error of a line that is no JSON: why, with a byte of it or its end as the place
 abbrev pub IsNotJsonLine : List ℕ → List ℕ → Type 0
 IsNotJsonLine line text =
     (offset : ℕ) × (offset ≤ length line)
-    × IsLineOf (answer_of None (codes "error") (not_json offset)) text
+    × IsLineOf (answer_of None (codes "error") (not_json (why line) offset)) text
 
 -- the answer to a call
 abbrev pub outcome_object : Option Data → Result Data Data → Data

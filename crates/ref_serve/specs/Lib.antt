@@ -7,6 +7,7 @@ pub mod About
 pub mod References
 pub mod Listings
 pub mod Faults
+pub mod Where
 pub mod Following
 pub mod Answering
 pub mod inner

@@ -6,3 +6,4 @@ pub mod Steps
 pub mod Giving
 pub mod Referred
 pub mod Faulty
+pub mod Placing

@@ -3,8 +3,10 @@ ghost use Rattle.std.specs.Prelude.{◌≡◌, codes, None, Some, IfOk, OnOk, On
 ghost use Rattle.serde_json.specs.View.{view};
 ghost use Rattle.ref_calls.specs.Objects.{answer_of, IsLineOf};
 ghost use Rattle.ref_calls.specs.Errors.{not_json as error_of};
+ghost use Rattle.ref_calls.specs.Why.{why as reason_of};
 ghost use Rattle.ref_calls.specs.Calls.{call_of};
-ghost use Rattle.ref_calls.specs.declared.call.Call.TheVariants.{Faults};
+ghost use Rattle.ref_calls.specs.declared.call.Call.TheVariants.{Faults, Open as Opening};
+ghost use Rattle.ref_json.specs.Text.{tree_of as tree_in};
 ghost use Rattle.ref_serve.specs.Answering as spec;
 ghost use Rattle.ref_calls.specs.Outcome.{Gives};
 ghost use Rattle.ref_serve.specs.inner.Replies.{registries_after, Replies, IsRead, IsUnchanged};
@@ -17,6 +19,7 @@ use crate::following::follow;
 use crate::listing::{dangling_references, places};
 use crate::looking::{lookup, recursive};
 use crate::opening::open_call;
+use crate::placing::placed_stop;
 use crate::references::references;
 use crate::registry::registry_of;
 use crate::state::{Open, State};
@@ -24,6 +27,7 @@ use crate::vocabularies::vocabularies;
 use ref_calls::answer::{error_text, id_of, text_of};
 use ref_calls::call::{Call, call_of};
 use ref_calls::fault::{not_json, plain_error};
+use ref_calls::why::why;
 use ref_calls::yaml::yaml;
 use ref_json::{Stop, tree_of};
 use ref_streams::Service;
@@ -56,17 +60,19 @@ fn answer_line(alloc: Global, state: &mut State, line: &[u8]) -> Result<Vec<u8>,
 {
     match tree_of(alloc, line) {
         Ok(tree) => answer_tree(alloc, state, line, tree),
-        Err(Stop::Because(offset)) => not_json_line(alloc, offset),
+        Err(Stop::Because(offset)) => not_json_line(alloc, line, offset),
         Err(Stop::Memory) => Err(AllocError),
     }
 }
 
 // The line of the answer to a line that is no JSON.
-fn not_json_line(alloc: Global, offset: usize) -> Result<Vec<u8>, AllocError>
+fn not_json_line(alloc: Global, line: &[u8], offset: usize) -> Result<Vec<u8>, AllocError>
     ensures { IfOk result
-        (λ text. IsLineOf (answer_of None (codes "error") (error_of offset)) text.items) }
+        (λ text. IsLineOf (answer_of None (codes "error") (error_of (reason_of line.now) offset))
+        text.items) }
 {
-    error_text(alloc, None, not_json(alloc, offset))
+    let reason = why(alloc, line)?;
+    error_text(alloc, None, not_json(alloc, reason, offset))
 }
 
 // The answer to the tree that a line is.
@@ -76,12 +82,13 @@ fn answer_tree(
     line: &[u8],
     tree: Value,
 ) -> Result<Vec<u8>, AllocError>
+    requires { tree_in line.now ≡ Some (view tree) }
     ensures answer { IfOk result
         (λ text. spec.IsAnswerTo state.old line.now (Some (view tree)) state.new text.items) }
     ensures refused { OnErr result (state.new ≡ state.old) }
 {
     let id = id_of(&tree)?;
-    match reply_to(alloc, state, tree) {
+    match reply_to(alloc, state, line, tree) {
         Ok(reply) => {
             let Reply {
                 result,
@@ -112,21 +119,42 @@ fn change(
     Ok(())
 }
 
-// What a call gives.
-fn reply_to(alloc: Global, state: &mut State, tree: Value) -> Result<Reply, Stop<Value>>
+// The reply to `open`, whose errors have their place in the documents of the line.
+fn opened_reply(
+    alloc: Global,
+    state: &mut State,
+    line: &[u8],
+    tree: Value,
+) -> Result<Reply, Stop<Value>>
+    requires { tree_in line.now ≡ Some (view tree) }
+    ensures same { state.new ≡ state.old }
+    ensures reply { Replies (spec.IsReply Opening state.old (view tree)) state.old result }
+{
+    match open_call(alloc, state, tree) {
+        Ok(opened) => Ok(Reply {
+            result: opened.result,
+            opened: opened.registries,
+            closed: None,
+        }),
+        Err(Stop::Because(error)) => Err(placed_stop(alloc, line, error)),
+        Err(Stop::Memory) => Err(Stop::Memory),
+    }
+}
+
+// What the call of a line gives.
+fn reply_to(
+    alloc: Global,
+    state: &mut State,
+    line: &[u8],
+    tree: Value,
+) -> Result<Reply, Stop<Value>>
+    requires { tree_in line.now ≡ Some (view tree) }
     ensures same { state.new ≡ state.old }
     ensures reply { Replies
         (spec.IsReplyTo (call_of (view tree)) state.old (view tree)) state.old result }
 {
     match call_of(alloc, &tree)? {
-        Call::Open => {
-            let opened = open_call(alloc, state, tree)?;
-            Ok(Reply {
-                result: opened.result,
-                opened: opened.registries,
-                closed: None,
-            })
-        }
+        Call::Open => opened_reply(alloc, state, line, tree),
         Call::Close => {
             let (number, _open) = registry_of(alloc, state, &tree)?;
             Ok(Reply {

@@ -2,8 +2,8 @@
 //! computes them.
 #![tactic(auto, unfolding(crate::proofs::OnLiterals::ref_serve_on_literals))]
 
-ghost use Rattle.std.specs.Prelude.{◌≡◌, [], ◌∷◌, codes, Some, None, Ok, Err, option_and_then};
-ghost use Rattle.serde_json.specs.Data.{null, array, no_items};
+ghost use Rattle.std.specs.Prelude.{◌≡◌, [], ◌∷◌, true, false, codes, Some, None, Ok, Err, option_and_then};
+ghost use Rattle.serde_json.specs.Data.{null, array, no_items, item};
 ghost use Rattle.ref_draft.specs.Anchors.{Plain, Dynamic};
 ghost use Rattle.ref_draft.specs.declared.draft.Draft.TheVariants.{Draft202012};
 ghost use Rattle.ref_definitions.specs.Fault.{NoSuchAnchor, UnknownSpecification, not_retrieved};
@@ -19,6 +19,7 @@ ghost use Rattle.ref_serve.specs.Opening.{uri_given, number_given};
 ghost use Rattle.ref_serve.specs.Listings.{identifier_member, anchor_member};
 ghost use Rattle.ref_serve.specs.References.{references_of};
 ghost use Rattle.ref_serve.specs.Faults.{problem_fault};
+ghost use Rattle.ref_serve.specs.Where.{known_by, tells_same, is_told_by, first_told, at_place, placed};
 ghost use Rattle.ref_serve.specs.Rows.{registry, opened, triple, from_base};
 
 /// The registries that are open, by their numbers.
@@ -162,4 +163,29 @@ pub fn faulty()
     ensures nowhere { problem_fault (LeadsNowhere (codes "http://a/b") (NoSuchAnchor (codes "x")))
         ≡ Some (NoSuchAnchor (codes "x")) }
     ensures note { problem_fault ListOfItems ≡ None }
+{}
+
+/// Where errors of `open` are.
+pub fn places_of_errors()
+    ensures by_its_uri { known_by (two "message" (text "x") "uri" (text "u:a")) ≡ codes "uri" }
+    ensures by_its_message { known_by (one "message" (text "x")) ≡ codes "message" }
+    ensures same_uri { tells_same (one "uri" (text "u:a"))
+        (two "message" (text "x") "uri" (text "u:a"))
+        ≡ true }
+    ensures another_uri { tells_same (two "message" (text "x") "uri" (text "u:a"))
+        (two "message" (text "x") "uri" (text "u:b"))
+        ≡ false }
+    ensures same_message { tells_same (one "message" (text "x")) (one "message" (text "x")) ≡ true }
+    ensures nothing_told { tells_same empty empty ≡ false }
+    ensures no_error { is_told_by (one "uri" (text "u:a")) (one "uri" (text "u:a")) ≡ false }
+    ensures the_first { first_told (one "uri" (text "u:b"))
+        (item (two "document" (whole_number 0) "error" (one "uri" (text "u:a")))
+        (item (two "document" (whole_number 1) "error" (one "uri" (text "u:b")))
+        (item (two "document" (whole_number 2) "error" (one "uri" (text "u:b"))) no_items)))
+        ≡ Some (two "document" (whole_number 1) "error" (one "uri" (text "u:b"))) }
+    ensures its_place { at_place (one "uri" (text "u:b"))
+        (three "document" (whole_number 1) "error" (one "uri" (text "u:b")) "pointer" (text "/a"))
+        ≡ three "document" (whole_number 1) "pointer" (text "/a") "uri" (text "u:b") }
+    ensures of_a_member { placed empty (two "field" (text "limit") "uri" (text "u:a"))
+        ≡ two "field" (text "limit") "uri" (text "u:a") }
 {}

@@ -181,8 +181,8 @@ fn remote_of(alloc: Global, members: &mut Members) -> Result<Vec<Document>, Stop
     }
 }
 
-// The faults of documents, beside which others may be referred to.
-fn faults_of(
+/// The faults of documents, beside which others may be referred to.
+pub fn faults_of(
     alloc: Global,
     draft: Draft,
     documents: &[Document],

@@ -17,6 +17,7 @@ mod listing;
 mod looking;
 mod opening;
 mod place;
+mod placing;
 mod references;
 mod registry;
 mod state;

@@ -7,7 +7,7 @@ ghost use Rattle.ref_error.specs.Retrieving.{trees_of};
 ghost use Rattle.ref_calls.specs.Objects.{object_of, with_all, texts, whole};
 ghost use Rattle.ref_calls.specs.Outcome.{Answers};
 ghost use Rattle.ref_calls.specs.Given.{given_of};
-ghost use Rattle.ref_serve.specs.Answering.{IsOpened, IsOpen};
+ghost use Rattle.ref_serve.specs.Answering.{IsOpened, IsOpening};
 ghost use Rattle.ref_serve.specs.Opening as spec;
 ghost use Rattle.ref_serve.specs.inner.Openings.{layers_at, parent_view, opening_view, asked_view, IsWorldOr, IsMetaWorldOr, GivesOpened};
 ghost use Rattle.ref_serve.specs.State.{Registries};
@@ -331,10 +331,10 @@ fn open(alloc: Global, state: &mut State, tree: Value) -> Result<Opened, Stop<Va
 }
 
 /// Opens a registry of documents, and with it one of meta-schemas where its parent is a list of them. Texts of YAML are read
-/// first.
+/// first. Errors have no place yet.
 pub fn open_call(alloc: Global, state: &mut State, tree: Value) -> Result<Opened, Stop<Value>>
     ensures same { state.new ≡ state.old }
-    ensures opened { GivesOpened (IsOpen state.old (view tree)) state.old result }
+    ensures opened { GivesOpened (IsOpening state.old (view tree)) state.old result }
 {
     match with_values(alloc, tree) {
         Ok(read) => open(alloc, state, read),
