@@ -36,6 +36,11 @@ enum Word {
     Exclude,
     Yaml,
     Verbose,
+    Quiet,
+    Rule,
+    Level,
+    MaxWarnings,
+    Statistics,
     Format,
     Language,
     Connected,
@@ -71,7 +76,9 @@ struct Row<'c> {
     help: &'c str,
 }
 
-const FORMATS: &[&str] = &["text", "json", "sarif", "github"];
+const FORMATS: &[&str] = &["text", "json", "sarif", "github", "gitlab", "junit"];
+
+const LEVELS: &[&str] = &["error", "warning", "note"];
 
 const DRAWINGS: &[&str] = &["mermaid", "dot"];
 
@@ -153,7 +160,7 @@ fn about<'c>(subcommand: Subcommand) -> &'c str {
 fn status_of<'c>(subcommand: Subcommand) -> &'c str {
     match subcommand {
         Subcommand::Lint => {
-            "Exit status: 0 where nothing is an error, 1 where something is, or nothing was looked at, 2 where a path can't be read or the command line is wrong. Warnings and notes are no errors."
+            "Exit status: 0 where nothing is an error, 1 where something is, or there are more warnings than --max-warnings, or nothing was looked at, 2 where a path can't be read or the command line is wrong. Warnings and notes are no errors."
         }
         Subcommand::Resolve => {
             "Exit status: 0 where the reference leads to a value, 1 where it doesn't, 2 where a path can't be read or the command line is wrong."
@@ -183,6 +190,11 @@ fn words_of(subcommand: Subcommand) -> &'static [Word] {
             Word::StdinPath,
             Word::Yaml,
             Word::Verbose,
+            Word::Quiet,
+            Word::Rule,
+            Word::Level,
+            Word::MaxWarnings,
+            Word::Statistics,
             Word::Format,
             Word::Base,
             Word::Draft,
@@ -239,6 +251,8 @@ fn arg_of<'c>(alloc: Global, word: Word) -> Arg<'c> {
         Word::Directory => arg.short('C'),
         Word::Output => arg.short('o'),
         Word::Verbose => arg.short('v'),
+        Word::Quiet => arg.short('q'),
+        Word::Level => arg.value_parser(LEVELS).default_value("note"),
         Word::From => arg.default_value("").allow_hyphen_values(true),
         Word::Format => arg.value_parser(FORMATS).default_value("text"),
         Word::Language => arg.value_parser(DRAWINGS).default_value("mermaid"),
@@ -342,7 +356,37 @@ fn row_of<'c>(word: Word) -> Row<'c> {
             "verbose",
             "",
             Kind::Flag,
-            "Also list references that were not checked, and say what is read though YAML 1.2 does not have it",
+            "Also list references that were not checked and texts under $ref that are in no place, and say what is read though YAML 1.2 does not have it",
+        ),
+        Word::Quiet => named(
+            "quiet",
+            "",
+            Kind::Flag,
+            "Print the findings alone, without the last line that counts them",
+        ),
+        Word::Rule => named(
+            "rule",
+            "RULE=LEVEL",
+            Kind::Values,
+            "Set a rule to error, warning, note or off, as missing-document=warning; may be repeated, and the last of a rule counts",
+        ),
+        Word::Level => named(
+            "level",
+            "LEVEL",
+            Kind::Value,
+            "List findings of this level and above; all are counted",
+        ),
+        Word::MaxWarnings => named(
+            "max-warnings",
+            "N",
+            Kind::Value,
+            "End with status 1 where there are more warnings than this",
+        ),
+        Word::Statistics => named(
+            "statistics",
+            "",
+            Kind::Flag,
+            "Also print how many findings each rule has",
         ),
         Word::Format => named("format", "FORMAT", Kind::Value, "How findings are printed"),
         Word::Language => named(

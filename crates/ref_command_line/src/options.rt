@@ -63,8 +63,8 @@ fn selection_of<'a>(alloc: Global, given: &ArgMatches<'a>) -> Result<Selection<'
     })
 }
 
-// The values of a word that may be given more than once.
-fn list_of<'a>(
+/// The values of a word that may be given more than once.
+pub fn list_of<'a>(
     alloc: Global,
     given: &ArgMatches<'a>,
     word: &str,

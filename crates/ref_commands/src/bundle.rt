@@ -14,7 +14,7 @@ use ref_parts::pointer_of;
 use ref_positions::splice::{Added, Part, with_added, with_parts};
 use ref_uri::UriRef;
 use ref_workspace::world::{World, outside_of, world_above};
-use ref_workspace::{Describer, Finding};
+use ref_workspace::{Describer, Finding, Report};
 use referencing::{Registry, ResourceRef};
 use serde_json::Value;
 use std::alloc::{AllocError, Global};
@@ -50,9 +50,9 @@ fn bundle_opened(
     if refuses_description(rt, opened) {
         return Ok(1);
     }
-    let list = opened.workspace.full_report(rt.alloc())?.findings;
-    let outside = reported(rt, outside_of(rt.alloc(), list.as_slice()))?;
-    bundle_above(rt, console, given, opened, list.as_slice(), &outside)
+    let report = opened.workspace.full_report(rt.alloc())?;
+    let outside = reported(rt, outside_of(rt.alloc(), report.findings.as_slice()))?;
+    bundle_above(rt, console, given, opened, &report, &outside)
 }
 
 // Whether the root is a description, which isn't bundled; and says so.
@@ -77,7 +77,7 @@ fn bundle_above<'s, 'd>(
     console: &mut Console<'_>,
     given: &'s ArgMatches<'_>,
     opened: &'d Opened<'_>,
-    list: &'s [Finding<'d>],
+    report: &'s Report<'d>,
     outside: &Registry<'_>,
 ) -> Result<u8, Stop> {
     let trees = opened.workspace.mended(rt.alloc())?;
@@ -87,7 +87,7 @@ fn bundle_above<'s, 'd>(
         rt,
         given,
         opened,
-        list,
+        report,
         world: &world,
     };
     match ref_bundle::bundle(rt.alloc(), &world.registry, 0) {
@@ -106,7 +106,7 @@ pub(crate) struct Sources<'s, 'a, 'd, 'm, 'w, 'o> {
     pub rt: &'s HostRuntime,
     given: &'s ArgMatches<'a>,
     pub opened: &'d Opened<'m>,
-    list: &'s [Finding<'d>],
+    report: &'s Report<'d>,
     pub world: &'w World<'o>,
 }
 
@@ -140,7 +140,12 @@ impl<'s, 'a, 'd, 'm, 'w, 'o> Sources<'s, 'a, 'd, 'm, 'w, 'o> {
     // Whether a document that is needed has faults, or something that is needed isn't there.
     fn has_problems(&self, bundle: &Bundle) -> Result<bool, Stop> {
         let needed = self.needed(bundle)?;
-        Ok(self.has_faults(needed.as_slice())? || self.is_incomplete(bundle, needed.as_slice())?)
+        let needed = needed.as_slice();
+        Ok(
+            self.has_faults(needed)?
+                || self.is_incomplete(bundle, needed)?
+                || self.report.led > 0 && self.say_left_behind(needed)?,
+        )
     }
 
     // Prints what is wrong with the documents that are needed, and returns whether that keeps them from being bundled:
@@ -149,7 +154,7 @@ impl<'s, 'a, 'd, 'm, 'w, 'o> Sources<'s, 'a, 'd, 'm, 'w, 'o> {
         let mut describer = Describer::new(
             self.rt.alloc(),
             &self.opened.workspace,
-            self.list,
+            self.report.findings.as_slice(),
             false,
         )?;
         let is_faulty = self.say_faults(&mut describer, needed);

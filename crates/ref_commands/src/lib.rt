@@ -6,8 +6,10 @@
 mod beside;
 pub mod bundle;
 pub mod graph;
+mod led;
 mod left_out;
 pub mod lint;
+mod listed;
 mod listing;
 mod message;
 mod opened;

@@ -1,24 +1,18 @@
 //! `patchsard lint`.
-use crate::left_out::{say_broken, say_leniencies};
+use crate::left_out::{say_broken, say_leniencies, say_unplaced};
+use crate::listed::{Form, Listing, Statistics};
 use crate::message::message_at;
 use crate::opened::{Opened, open_given};
 use clap::ArgMatches;
 use ref_command_line::{Console, Stop, say};
 use ref_findings::Problem;
-use ref_messages::{Level, Message, push_annotation, push_line, push_sarif, push_text};
+use ref_messages::{
+    Level, Message, push_annotation, push_gitlab, push_junit, push_line, push_sarif, push_text,
+};
 use ref_workspace::{Describer, Document, Finding, RULES};
 use std::alloc::{AllocError, Global};
 use std::io;
 use std::time::Instant;
-
-// How findings are printed.
-#[derive(Clone, Copy, Drop, PartialEq, Eq)]
-enum Form {
-    Text,
-    Lines,
-    Sarif,
-    GitHub,
-}
 
 // How many references and findings there are.
 #[derive(Clone, Copy, Drop)]
@@ -31,7 +25,7 @@ struct Count {
     errors: usize,
     warnings: usize,
     notes: usize,
-    // How many files are neither JSON nor YAML, or are descriptions whose references aren't checked.
+    // How many files are neither JSON nor YAML, are descriptions whose references aren't checked, or have a root that is no schema.
     unread: usize,
 }
 
@@ -43,32 +37,34 @@ pub fn lint(
     given: &ArgMatches<'_>,
 ) -> Result<u8, Stop> {
     let begin = Instant::now(rt);
+    let listing = Listing::of(rt, given)?;
     let opened = open_given(rt, given)?;
     let workspace = &opened.workspace;
     let others = workspace
         .documents()
         .get(workspace.asked()..workspace.opened());
     say_broken(rt, others.unwrap_or(&[]));
-    let other_roots = other_roots_in(workspace.asked_about());
-    let is_verbose = given.get_flag("verbose");
-    if is_verbose {
+    if listing.is_verbose {
         say_leniencies(rt, workspace.documents())?;
     }
-    let listed = list_all(rt, console, form_of(given), is_verbose, &opened);
+    let listed = list_all(rt, console, &listing, &opened);
     let (has_failed, passed) = (opened.has_failed, opened.passed);
     let files = opened.keep();
     let Some(count) = count_of(listed)? else {
         console.out.clear();
         return Ok(1);
     };
-    summary(rt, files, count, passed)?;
-    print_time(rt, begin);
-    let unread = count.unread.saturating_add(other_roots);
-    let is_looked_at = files > unread || count.references > 0;
+    if !listing.is_quiet {
+        summary(rt, files, count, passed)?;
+        print_time(rt, begin);
+    }
+    let is_looked_at = count.is_looked_at(files);
     if !is_looked_at && !has_failed {
         say_nothing(rt, files, passed);
     }
-    Ok(status_of(count, is_looked_at, has_failed))
+    let is_fine = count.errors == 0
+        && count.warnings <= listing.most_warnings.unwrap_or(usize::MAX);
+    Ok(status_of(is_fine && is_looked_at, has_failed))
 }
 
 // The count, or nothing where standard output is closed.
@@ -80,15 +76,11 @@ fn count_of(count: Result<Count, Stop>) -> Result<Option<Count>, Stop> {
     }
 }
 
-fn status_of(count: Count, is_looked_at: bool, has_failed: bool) -> u8 {
+fn status_of(is_fine: bool, has_failed: bool) -> u8 {
     if has_failed {
         return 2;
     }
-    if count.errors == 0 && is_looked_at {
-        0
-    } else {
-        1
-    }
+    if is_fine { 0 } else { 1 }
 }
 
 // Says that no reference was looked at, which is no all-clear.
@@ -149,37 +141,47 @@ fn print_time(rt: &HostRuntime, begin: io::Result<Instant>) {
 fn list_all(
     rt: &HostRuntime,
     console: &mut Console<'_>,
-    form: Form,
-    is_verbose: bool,
+    listing: &Listing<'_>,
     opened: &Opened<'_>,
 ) -> Result<Count, Stop> {
     let alloc = rt.alloc();
     let report = opened.workspace.full_report(alloc)?;
     let findings = report.findings.as_slice();
-    let mut describer = Describer::new(alloc, &opened.workspace, findings, is_verbose)?;
+    if listing.is_verbose {
+        let unplaced = report.unplaced.as_slice();
+        say_unplaced(rt, opened.workspace.documents(), unplaced)?;
+    }
+    let mut describer = Describer::new(
+        alloc,
+        &opened.workspace,
+        findings,
+        listing.has_unchecked(),
+    )?;
     let mut count = Count {
         descriptions: report.descriptions,
         places: report.places,
         references: report.references,
-        unplaced: report.unplaced,
+        unplaced: report.unplaced.len(),
         errors: 0,
         warnings: 0,
         notes: 0,
-        unread: unread_in(findings),
+        unread: unread_in(findings).saturating_add(other_roots_in(opened.workspace.asked_about())),
     };
-    let printed = print(rt, opened, console, form, &mut describer, &mut count);
+    let mut statistics = Statistics::new(alloc);
+    let printed = print(
+        rt,
+        opened,
+        console,
+        listing,
+        &mut describer,
+        (&mut count, &mut statistics),
+    );
     drop(describer);
     printed?;
-    Ok(count)
-}
-
-fn form_of(given: &ArgMatches<'_>) -> Form {
-    match given.get_str("format") {
-        Some("json") => Form::Lines,
-        Some("sarif") => Form::Sarif,
-        Some("github") => Form::GitHub,
-        _ => Form::Text,
+    if listing.has_statistics {
+        statistics.say(rt);
     }
+    Ok(count)
 }
 
 // Prints the messages on findings, and counts them.
@@ -187,30 +189,58 @@ fn print(
     rt: &HostRuntime,
     opened: &Opened<'_>,
     console: &mut Console<'_>,
-    form: Form,
+    listing: &Listing<'_>,
     describer: &mut Describer<'_, '_>,
-    count: &mut Count,
+    counts: (&mut Count, &mut Statistics),
 ) -> Result<(), Stop> {
-    if form == Form::Sarif {
-        print_log(rt, opened, console, describer, count)?;
-    } else {
-        print_each(rt, opened, console, form, describer, count)?;
+    match listing.form {
+        Form::Sarif | Form::GitLab | Form::JUnit => {
+            print_whole(rt, opened, console, listing, describer, counts)?;
+        }
+        _ => print_each(rt, opened, console, listing, describer, counts)?,
     }
     console.finish()
+}
+
+// The message on the finding at a place, where it is listed, with the level that its rule is set to; and counts it.
+fn counted<'m>(
+    rt: &HostRuntime,
+    opened: &Opened<'_>,
+    listing: &Listing<'_>,
+    describer: &mut Describer<'_, 'm>,
+    place: usize,
+    (count, statistics): (&mut Count, &mut Statistics),
+) -> Result<Option<Message<'m>>, AllocError> {
+    let Some(mut message) = message_at(rt, opened, describer, place)? else {
+        return Ok(None);
+    };
+    let Some(level) = listing.level(message.code, message.level) else {
+        return Ok(None);
+    };
+    message.level = level;
+    count.add(level);
+    match statistics.add(message.code) {
+        Ok(()) if listing.is_printed(level) => Ok(Some(message)),
+        Ok(()) => Ok(None),
+        Err(error) => {
+            drop(message);
+            Err(error)
+        }
+    }
 }
 
 fn print_each(
     rt: &HostRuntime,
     opened: &Opened<'_>,
     console: &mut Console<'_>,
-    form: Form,
+    listing: &Listing<'_>,
     describer: &mut Describer<'_, '_>,
-    count: &mut Count,
+    (count, statistics): (&mut Count, &mut Statistics),
 ) -> Result<(), Stop> {
     for place in 0..describer.len() {
-        if let Some(message) = message_at(rt, opened, describer, place)? {
-            count.add(message.level);
-            let pushed = push_message(rt.alloc(), console, form, &message);
+        let counts = (&mut *count, &mut *statistics);
+        if let Some(message) = counted(rt, opened, listing, describer, place, counts)? {
+            let pushed = push_message(rt.alloc(), console, listing.form, &message);
             drop(message);
             pushed?;
         }
@@ -218,23 +248,41 @@ fn print_each(
     Ok(())
 }
 
-// Prints all as one log in SARIF.
-fn print_log(
+// Prints all as one log or report.
+fn print_whole(
     rt: &HostRuntime,
     opened: &Opened<'_>,
     console: &mut Console<'_>,
+    listing: &Listing<'_>,
     describer: &mut Describer<'_, '_>,
-    count: &mut Count,
+    (count, statistics): (&mut Count, &mut Statistics),
 ) -> Result<(), AllocError> {
     let alloc = rt.alloc();
     let mut messages = Vec::new(alloc);
     for place in 0..describer.len() {
-        if let Some(message) = message_at(rt, opened, describer, place)? {
-            count.add(message.level);
+        let counts = (&mut *count, &mut *statistics);
+        if let Some(message) = counted(rt, opened, listing, describer, place, counts)? {
             keep(&mut messages, message)?;
         }
     }
-    push_sarif(alloc, &mut console.out, "0.1.0", RULES, messages.as_slice())
+    let messages = messages.as_slice();
+    match listing.form {
+        Form::GitLab => push_gitlab(alloc, &mut console.out, messages),
+        Form::JUnit => push_junit(&mut console.out, messages, unlooked(opened, *count)),
+        _ => push_sarif(alloc, &mut console.out, "0.1.0", RULES, messages),
+    }
+}
+
+// Why something wasn't looked at, where it wasn't.
+fn unlooked(opened: &Opened<'_>, count: Count) -> Option<&'static str> {
+    if opened.has_failed {
+        return Some("a path couldn't be read: standard error says which");
+    }
+    if count.is_looked_at(opened.workspace.asked()) {
+        None
+    } else {
+        Some("nothing was looked at")
+    }
 }
 
 fn keep<'m>(messages: &mut Vec<Message<'m>>, message: Message<'m>) -> Result<(), AllocError> {
@@ -257,6 +305,11 @@ fn push_message(
 }
 
 impl Count {
+    // Whether something in so many files was looked at.
+    fn is_looked_at(self, files: usize) -> bool {
+        files > self.unread || self.references > 0
+    }
+
     fn add(&mut self, level: Level) {
         match level {
             Level::Error => self.errors = self.errors.saturating_add(1),

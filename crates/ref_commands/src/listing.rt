@@ -151,7 +151,8 @@ fn push_described_place(
     write!(out, " base {}\n", place.base.as_str())
 }
 
-fn version_name(version: Version) -> &'static str {
+/// The name of a version.
+pub(crate) fn version_name(version: Version) -> &'static str {
     match version {
         Version::V2_0 => "2.0",
         Version::V3_0 => "3.0",

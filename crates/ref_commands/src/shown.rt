@@ -1,8 +1,9 @@
 //! What a reference leads to, as it is printed.
+use crate::listing::version_name;
 use ref_command_line::Stop;
 use ref_draft::Draft;
 use ref_messages::{Plain, push_json};
-use ref_parts::value_at;
+use ref_parts::{pointer_of, value_at};
 use ref_workspace::follow::Found;
 use ref_workspace::pointer::{path_to, position};
 use ref_workspace::{Document, Workspace, World};
@@ -23,6 +24,7 @@ pub fn push_found(
     let own = own_value(alloc, workspace.value(number), found.pointer.as_str())?;
     push_value(alloc, out, own.unwrap_or(found.value))?;
     push_line(alloc, out, workspace, number, found.pointer.as_str())?;
+    push_kind(alloc, out, workspace, number, found.pointer.as_str())?;
     push_scope(out, found.draft, &found.resolver)?;
     Ok(())
 }
@@ -46,6 +48,27 @@ fn push_value(alloc: Global, out: &mut String, value: &Value) -> Result<(), Stop
     let text = value.to_string_pretty(alloc)?;
     push_json(out, text.as_str())?;
     out.push('\n')?;
+    Ok(())
+}
+
+// Adds what an object of a description is, by which version.
+fn push_kind(
+    alloc: Global,
+    out: &mut String,
+    workspace: &Workspace,
+    number: usize,
+    pointer: &str,
+) -> Result<(), AllocError> {
+    let description = workspace.description(alloc)?;
+    for place in &description.places {
+        let here = pointer_of(alloc, place.path.as_slice())?;
+        if place.document == number && here.as_str() == pointer {
+            if let Some(version) = place.reading.version {
+                let kind = place.reading.kind.name();
+                return write!(out, "kind {kind} {}\n", version_name(version));
+            }
+        }
+    }
     Ok(())
 }
 

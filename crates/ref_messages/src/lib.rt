@@ -1,9 +1,12 @@
-//! Messages about places in files, and the forms in which they are printed: text for people, an object a line, SARIF,
-//! and the annotations of GitHub.
+//! Messages about places in files, and the forms in which they are printed: text for people, an object a line, SARIF, the
+//! annotations of GitHub, and reports of JUnit and GitLab.
 #![tactic(auto)]
 
 mod github;
+mod gitlab;
 mod graph;
+mod junit;
+mod levels;
 mod lines;
 mod members;
 mod message;
@@ -13,7 +16,10 @@ mod suggest;
 mod text;
 
 pub use github::push_annotation;
+pub use gitlab::push_gitlab;
 pub use graph::{Edge, Graph, Node, push_dot, push_mermaid};
+pub use junit::push_junit;
+pub use levels::{Chosen, level_in};
 pub use lines::push_line;
 pub use message::{Level, Message, Other};
 pub use plain::{Plain, PlainBytes, push_json};

@@ -1,3 +1,4 @@
 pub mod Lists
 pub mod Growing
 pub mod Found
+pub mod Roots

@@ -1,5 +1,6 @@
 pub mod Places
 pub mod Leading
+pub mod Schemas
 pub mod Views
 pub mod Knowing
 pub mod inner

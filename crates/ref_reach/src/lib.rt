@@ -1,7 +1,9 @@
 //! What references lead to: the places of OpenAPI descriptions, those that references of these lead to, and so on, with what is wrong
 //! with the references.
 //!
-//! Read `specs/Places.antt` and `specs/Leading.antt` first, upon `Fields.antt`, `Below.antt` and `References.antt` of `ref_descriptions`.
+//! [`reach`] begins at the descriptions, and [`reach_schemas`] at other documents, whose schemas may refer to what no keyword leads to.
+//!
+//! Read `specs/Places.antt`, `specs/Leading.antt` and `specs/Schemas.antt` first, upon `Fields.antt`, `Below.antt` and `References.antt` of `ref_descriptions`.
 #![tactic(auto)]
 
 mod described;
@@ -12,6 +14,7 @@ mod mapped;
 mod own;
 mod place;
 mod reaching;
+mod schemas;
 mod seen;
 mod table;
 
@@ -19,4 +22,5 @@ pub use described::Documents;
 pub use documents::{Source, documents_of};
 pub use finding::{Finding, Level, Problem};
 pub use place::Place;
-pub use reaching::{Reached, reach};
+pub use reaching::{Reached, reach, reach_schemas};
+pub use schemas::{Schemas, schemas_of};

@@ -3,10 +3,11 @@ ghost use Rattle.std.specs.Prelude.{◌≡◌, ◌++◌, [], ◌∷◌, map, IfO
 ghost use Rattle.serde_json.specs.View.{view};
 ghost use Rattle.ref_descriptions.specs.Views.{inner_of};
 ghost use Rattle.ref_reach.specs.Places.{meant, place_with, identifier_of, self_of, root_place, inner_place, below_place};
+ghost use Rattle.ref_reach.specs.Schemas.{schema_root};
 ghost use Rattle.ref_reach.specs.Views.{place_of};
 
 use ref_descriptions::{Inner, Reading, Version, below, reading_of_root};
-use ref_draft::ResourceRef;
+use ref_draft::{Draft, ResourceRef};
 use ref_index::meanings::{if_meant, resolved, text_under};
 use ref_parts::path::JsonPointerNode;
 use ref_uri::Uri;
@@ -109,6 +110,30 @@ pub(crate) fn root_of<'r>(
 {
     let text = self_in(version, value);
     let reading = reading_of_root(version, value);
+    Place::new(
+        alloc,
+        document,
+        JsonPointerNode::new(),
+        value,
+        reading,
+        uri,
+        text,
+    )
+}
+
+/// The root of a document as a schema, under the URI of the document: of the draft that it names, or else of this one.
+pub(crate) fn schema_root<'r>(
+    alloc: Global,
+    document: usize,
+    uri: &Rc<Uri>,
+    value: &'r Value,
+    draft: Draft,
+) -> Result<Place<'r>, AllocError>
+    ensures value { IfOk result
+        (λ p. place_of p ≡ schema_root draft document uri.now.value (view value.now)) }
+{
+    let reading = Reading::of_schema(draft.detect(value));
+    let text = identifier(reading, value);
     Place::new(
         alloc,
         document,

@@ -41,14 +41,6 @@ impl<'r> Seen<'r> {
         Ok(())
     }
 
-    /// Adds places, each where it is new.
-    pub fn add_all(&mut self, alloc: Global, places: Vec<Place<'r>>) -> Result<(), AllocError> {
-        for place in places {
-            self.add(alloc, place)?;
-        }
-        Ok(())
-    }
-
     /// The places.
     pub fn into_places(self) -> Vec<Place<'r>> {
         let Seen { places, .. } = self;

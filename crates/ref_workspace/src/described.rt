@@ -1,5 +1,7 @@
 //! The descriptions among the documents of a workspace: what is wrong with their references, and where these are.
 use crate::finding::{Finding, Problem, push};
+use crate::led::add_led_places;
+use crate::placed::Placed;
 use crate::workspace::Workspace;
 use ref_descriptions::{Reading, Under, references, version_of};
 use ref_findings::Problem as SchemaProblem;
@@ -15,7 +17,7 @@ use ref_uri::{Uri, UriFault};
 use serde_json::Value;
 use std::alloc::{AllocError, Global};
 use std::borrow::CowStr;
-use std::collections::BTreeMap;
+use std::collections::BTreeSet;
 use std::rc::Rc;
 
 /// Which documents of a workspace are descriptions or parts of them, and how much there is in these.
@@ -25,26 +27,25 @@ pub(crate) struct Described {
     pub places: usize,
     /// How many references these have.
     pub references: usize,
-    // How many of these places have a text under `$ref`, of documents that are asked about, each counted once.
-    placed: usize,
+    /// Which texts under `$ref` are in places.
+    pub placed: Placed,
     /// By the numbers of the documents, whether one is a description, or a part that a reference leads to as a whole.
     pub is_described: Vec<bool>,
-    // By these numbers, whether one has a place.
-    has_place: Vec<bool>,
     /// How many of the documents that are asked about are descriptions.
     pub descriptions: usize,
 }
 
-// What is wrong with a reference in the document with a number, at a path.
+/// What is wrong with a reference in the document with a number, at a path.
 #[derive(Drop)]
-struct Fault<'d> {
+pub(crate) struct Fault<'d> {
     document: usize,
     path: Vec<JsonPointerSegment<'d>>,
     keyword: String,
-    problem: ReachProblem,
+    /// What is wrong.
+    pub problem: ReachProblem,
 }
 
-/// A place of a description, or of a part of one.
+/// A place of a description, or of a part of one; or what a reference of a schema leads to where no keyword does, or is below that.
 #[derive(Drop)]
 pub struct DescribedPlace<'d> {
     /// The number of its document.
@@ -57,18 +58,20 @@ pub struct DescribedPlace<'d> {
     pub base: Rc<Uri>,
 }
 
-/// A reference of a description, or of a part of one, that means a URI.
+/// A reference of such a place that means a URI.
 #[derive(Drop)]
 pub struct DescribedReference {
     /// The number of its document.
     pub document: usize,
+    /// The number of its place, in the list of places.
+    pub place: usize,
     /// Whether it is a fragment alone.
     pub is_fragment: bool,
     /// The URI that it means, without its fragment.
     pub uri: Uri,
 }
 
-/// What descriptions have: their places, and the references of these.
+/// What descriptions have, and what schemas have beside the places that keywords lead to: places, and the references of these.
 #[derive(Drop)]
 pub struct Description<'d> {
     /// The places, in the order in which they are met.
@@ -79,14 +82,17 @@ pub struct Description<'d> {
     pub is_described: Vec<bool>,
 }
 
-// The documents that have a value, as sources, with their numbers.
+/// The documents that have a value, as sources, with their numbers.
 #[derive(Drop)]
-struct Numbered<'d> {
-    sources: Vec<Source<'d>>,
-    numbers: Vec<usize>,
+pub(crate) struct Numbered<'d> {
+    /// The sources.
+    pub sources: Vec<Source<'d>>,
+    /// The number of the document of each.
+    pub numbers: Vec<usize>,
 }
 
-fn numbered_sources<'d>(
+/// Those of a workspace.
+pub(crate) fn numbered_sources<'d>(
     alloc: Global,
     workspace: &'d Workspace,
 ) -> Result<Numbered<'d>, AllocError> {
@@ -108,13 +114,12 @@ impl Described {
     /// Those of a workspace, by their roots alone. Fails only if out of memory.
     pub fn of(alloc: Global, workspace: &Workspace) -> Result<Described, AllocError> {
         let is_described = vec![in alloc; false; workspace.len()]?;
-        let has_place = vec![in alloc; false; workspace.len()]?;
+        let placed = Placed::new(alloc, workspace.len())?;
         let mut described = Described {
             places: 0,
             references: 0,
-            placed: 0,
+            placed,
             is_described,
-            has_place,
             descriptions: 0,
         };
         for number in 0..workspace.len() {
@@ -132,14 +137,31 @@ impl Described {
         self.note(number);
     }
 
+    /// Whether the document with a number is a description or a part.
+    pub fn is_described_at(&self, number: usize) -> bool {
+        self.is_described.get(number).copied().unwrap_or(false)
+    }
+
+    /// Of a document that is neither, notes whether its texts are looked for.
+    pub fn look_at(&mut self, number: usize, is_looked: bool) {
+        if self.is_described_at(number) {
+            return;
+        }
+        if is_looked {
+            self.placed.note(number);
+        } else {
+            self.placed.forget(number);
+        }
+    }
+
     fn note(&mut self, number: usize) {
         if let Some(is) = self.is_described.get_mut(number) {
             *is = true;
         }
     }
 
-    // Whether there is one.
-    fn is_any(&self) -> bool {
+    /// Whether there is one.
+    pub fn is_any(&self) -> bool {
         self.is_described.iter().any(|is| *is)
     }
 
@@ -161,11 +183,9 @@ impl Described {
         self.note_parts(numbers, reached.places.as_slice());
         self.places = own.len().saturating_add(reached.places.len());
         self.references = reached.references;
-        let mut seen = BTreeMap::new(alloc);
-        add_placed(alloc, &mut seen, asked, numbers, own)?;
-        add_placed(alloc, &mut seen, asked, numbers, reached.places.as_slice())?;
-        self.placed = seen.len();
-        Ok(())
+        self.placed.add_all(alloc, asked, numbers, own)?;
+        self.placed
+            .add_all(alloc, asked, numbers, reached.places.as_slice())
     }
 
     // Notes which documents have places, and which are parts that a reference leads to as a whole.
@@ -181,22 +201,7 @@ impl Described {
         if is_root {
             self.note(number);
         }
-        if let Some(has) = self.has_place.get_mut(number) {
-            *has = true;
-        }
-    }
-
-    /// How many texts are under a `$ref` that is in no place, in those documents that are asked about and have a place.
-    pub fn unplaced(&self, alloc: Global, workspace: &Workspace) -> Result<usize, AllocError> {
-        let mut count: usize = 0;
-        for (number, document) in workspace.asked_about().iter().enumerate() {
-            if self.has_place.get(number).copied().unwrap_or(false) {
-                if let Some(value) = document.value() {
-                    count = count.saturating_add(texts_in(alloc, value)?);
-                }
-            }
-        }
-        Ok(count.saturating_sub(self.placed))
+        self.placed.note(number);
     }
 }
 
@@ -239,9 +244,12 @@ fn faults_by<'d>(
     faults_among(alloc, workspace.asked(), numbers, documents, described)
 }
 
-// Keeps documents to the end of the program. What is reached in them has their own lifetime, which no borrow of a local one has here, so
-// that their index isn't given back.
-fn kept<'v>(alloc: Global, documents: Documents<'v>) -> Result<&'v Documents<'v>, AllocError> {
+/// Keeps documents to the end of the program. What is reached in them has their own lifetime, which no borrow of a local one has here, so
+/// that their index isn't given back.
+pub(crate) fn kept<'v>(
+    alloc: Global,
+    documents: Documents<'v>,
+) -> Result<&'v Documents<'v>, AllocError> {
     let mut list = Vec::new(alloc);
     list.push(documents)?;
     let list: &'v [Documents<'v>] = list.leak();
@@ -263,7 +271,8 @@ fn faults_among<'d, 'r>(
     faults_in(alloc, numbers, documents.own(), reached)
 }
 
-fn faults_in<'d, 'r>(
+/// What is wrong with references, by what was reached beside own places.
+pub(crate) fn faults_in<'d, 'r>(
     alloc: Global,
     numbers: &[usize],
     own: &[Place<'r>],
@@ -325,8 +334,37 @@ fn push_fault<'d>(list: &mut Vec<Fault<'d>>, fault: Fault<'d>) -> Result<(), All
     Ok(())
 }
 
-// Adds the finding of a fault, where its document is asked about.
-fn add_fault<'d>(
+/// Faults, each once: a place that is reached with several drafts or bases may have one fault with each.
+pub(crate) fn each_once<'d>(
+    alloc: Global,
+    faults: Vec<Fault<'d>>,
+) -> Result<Vec<Fault<'d>>, AllocError> {
+    let mut seen = BTreeSet::new(alloc);
+    let mut list = Vec::new(alloc);
+    for fault in faults {
+        if seen.insert(name_of(alloc, &fault)?)? {
+            push_fault(&mut list, fault)?;
+        }
+    }
+    Ok(list)
+}
+
+// A text that tells faults apart: where the reference is, and what it means.
+fn name_of(alloc: Global, fault: &Fault<'_>) -> Result<String, AllocError> {
+    let uri = match &fault.problem {
+        ReachProblem::MissingDocument { uri } => uri.as_str(),
+        ReachProblem::LeadsNowhere { uri, .. } => uri.as_str(),
+        ReachProblem::WrongKind { uri, .. } => uri.as_str(),
+        ReachProblem::Unchecked { uri } => uri.as_str(),
+        _ => "",
+    };
+    let pointer = pointer_of(alloc, fault.path.as_slice())?;
+    let (number, keyword) = (fault.document, fault.keyword.as_str());
+    format!(in alloc; "{number} {uri} {keyword} {pointer}")
+}
+
+/// Adds the finding of a fault, where its document is asked about.
+pub(crate) fn add_fault<'d>(
     workspace: &'d Workspace,
     fault: Fault<'d>,
     list: &mut Vec<Finding<'d>>,
@@ -374,8 +412,8 @@ fn texts_at<'d>(
 }
 
 impl Workspace {
-    /// The places of the descriptions among the documents, and of what their references lead to, with the references of these. Fails
-    /// only if out of memory.
+    /// The places of the descriptions among the documents, and of what their references lead to, with the references of these; and after them
+    /// what the references of schemas lead to where no keyword does. Fails only if out of memory.
     pub fn description<'d>(&'d self, alloc: Global) -> Result<Description<'d>, AllocError> {
         let mut described = Described::of(alloc, self)?;
         let mut description = Description {
@@ -386,6 +424,7 @@ impl Workspace {
         if described.is_any() {
             self.describe(alloc, &mut described, &mut description)?;
         }
+        add_led_places(alloc, self, &described, &mut description)?;
         description.is_described = described.into_flags();
         Ok(description)
     }
@@ -427,8 +466,12 @@ impl Workspace {
         Ok(uris)
     }
 
-    // Adds the URI of a document that isn't there.
-    fn push_missing(&self, uris: &mut Vec<Uri>, problem: &ReachProblem) -> Result<(), AllocError> {
+    /// Adds the URI of a document that isn't there.
+    pub(crate) fn push_missing(
+        &self,
+        uris: &mut Vec<Uri>,
+        problem: &ReachProblem,
+    ) -> Result<(), AllocError> {
         let ReachProblem::MissingDocument { uri } = problem else {
             return Ok(());
         };
@@ -456,7 +499,8 @@ impl<'d> Description<'d> {
         self.add_places(alloc, workspace, numbers, reached.places.as_slice())
     }
 
-    fn add_places(
+    /// Adds places, with their references.
+    pub(crate) fn add_places(
         &mut self,
         alloc: Global,
         workspace: &Workspace,
@@ -521,6 +565,7 @@ impl<'d> Description<'d> {
                 let is_fragment = text.starts_with('#');
                 self.references.push(DescribedReference {
                     document,
+                    place: self.places.len().saturating_sub(1),
                     is_fragment,
                     uri,
                 })?;
@@ -593,8 +638,8 @@ fn member_of<'d>(value: &'d Value, name: &str) -> Option<(&'d str, &'d Value)> {
     None
 }
 
-// The pointer to a place (RFC 6901).
-fn pointer_at(alloc: Global, place: &Place<'_>) -> Result<String, AllocError> {
+/// The pointer to a place (RFC 6901).
+pub(crate) fn pointer_at(alloc: Global, place: &Place<'_>) -> Result<String, AllocError> {
     let path = segments_of(alloc, &place.path)?;
     pointer_of(alloc, path.as_slice())
 }
@@ -616,8 +661,8 @@ fn own_path<'d>(
     Ok(path)
 }
 
-// A step with a key of its own.
-fn owned<'d>(
+/// A step with a key of its own.
+pub(crate) fn owned<'d>(
     alloc: Global,
     step: &JsonPointerSegment<'_>,
 ) -> Result<JsonPointerSegment<'d>, AllocError> {
@@ -628,54 +673,4 @@ fn owned<'d>(
         }
         JsonPointerSegment::Index(index) => Ok(JsonPointerSegment::Index(*index)),
     }
-}
-
-// Adds those places in documents that are asked about that have a text under `$ref`, each by its document and its pointer.
-fn add_placed(
-    alloc: Global,
-    seen: &mut BTreeMap<(usize, String), ()>,
-    asked: usize,
-    numbers: &[usize],
-    places: &[Place<'_>],
-) -> Result<(), AllocError> {
-    for place in places {
-        let number = numbers.get(place.document).copied().unwrap_or(usize::MAX);
-        if number < asked && place.value.get("$ref").is_some_and(Value::is_string) {
-            let pointer = pointer_at(alloc, place)?;
-            seen.insert((number, pointer), ())?;
-        }
-    }
-    Ok(())
-}
-
-// How many texts are under a `$ref` in a value, at any depth.
-fn texts_in(alloc: Global, value: &Value) -> Result<usize, AllocError> {
-    let mut count: usize = 0;
-    let mut waiting = Vec::new(alloc);
-    waiting.push(value)?;
-    for _ in 0..u64::MAX {
-        let Some(value) = waiting.pop() else {
-            break;
-        };
-        if value.get("$ref").is_some_and(Value::is_string) {
-            count = count.saturating_add(1);
-        }
-        push_below(&mut waiting, value)?;
-    }
-    Ok(count)
-}
-
-// Adds the values in a value.
-fn push_below<'v>(waiting: &mut Vec<&'v Value>, value: &'v Value) -> Result<(), AllocError> {
-    if let Some(members) = value.as_object() {
-        for (_, member) in members.iter() {
-            waiting.push(member)?;
-        }
-    }
-    if let Some(items) = value.as_array() {
-        for item in items {
-            waiting.push(item)?;
-        }
-    }
-    Ok(())
 }

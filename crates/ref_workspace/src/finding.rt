@@ -1,4 +1,5 @@
 //! What is wrong with documents, or is to be noted.
+use crate::placed::Unplaced;
 use ref_descriptions::Kind;
 use ref_findings::{Finding as SchemaFinding, Level, Problem as SchemaProblem};
 use ref_parts::path::JsonPointerSegment;
@@ -11,14 +12,16 @@ use std::rc::Rc;
 pub struct Report<'d> {
     /// What is wrong, and what is noted.
     pub findings: Vec<Finding<'d>>,
-    /// How many references were looked at: those of schemas, and those of descriptions and of what these lead to.
+    /// How many references were looked at: those of schemas and of what these lead to, and those of descriptions and of what these lead to.
     pub references: usize,
+    /// How many of these are in places of schemas that no keyword leads to, but references.
+    pub led: usize,
     /// How many of the documents that are asked about are descriptions.
     pub descriptions: usize,
     /// How many places the descriptions have: objects, and what references lead to.
     pub places: usize,
-    /// How many texts are under a `$ref` that is in no such place, in the descriptions and in the documents that they lead into.
-    pub unplaced: usize,
+    /// The texts under a `$ref` that is in no place, in those documents that are asked about: nothing looks at them.
+    pub unplaced: Vec<Unplaced<'d>>,
 }
 
 /// Something that is wrong with a document, or a note on it.
@@ -41,7 +44,7 @@ pub struct Finding<'d> {
 pub enum Problem<'d> {
     /// Of a document as a whole, or of a text in it, whatever the document is.
     Plain(SchemaProblem<'d>),
-    /// A reference of a description leads to an object of another kind than the one that is needed there.
+    /// A reference leads to an object of a description of another kind than the one that is needed there.
     WrongKind {
         /// The URI of the document that it leads into.
         uri: Rc<Uri>,

@@ -10,6 +10,7 @@ ghost use Rattle.ref_workspace.specs.Workspace.{as_source};
 
 use crate::described::{Described, add_described};
 use crate::finding::{Finding, Report, plain, push, push_all, push_plain};
+use crate::led::add_led;
 use crate::workspace::{Document, Workspace};
 use ref_draft::Draft;
 use ref_findings::{Held, Problem, Report as SchemaReport, Source, as_sources, mended, report};
@@ -34,8 +35,8 @@ pub(crate) fn sources_of<'d>(
     Ok(sources)
 }
 
-// Adds what was retrieved and has no text.
-fn add_held<'d>(list: &mut Vec<Source<'d>>, held: &'d [Held]) -> Result<(), AllocError>
+/// Adds what was retrieved and has no text.
+pub(crate) fn add_held<'d>(list: &mut Vec<Source<'d>>, held: &'d [Held]) -> Result<(), AllocError>
     ensures { OnOk result
         (map source_of list.new.items
         ≡ map source_of list.old.items ++ map held_source held.now) }
@@ -134,12 +135,15 @@ impl Workspace {
         add_described(alloc, self, &mut described, &mut more)?;
         let mut findings = Vec::new(alloc);
         let references = self.add_plain(alloc, described.is_described.as_slice(), &mut findings)?;
+        let led = add_led(alloc, self, references, &mut described, &mut more)?;
+        let references = references.saturating_add(led);
         push_all(&mut findings, more)?;
         self.add_faults(alloc, &mut findings)?;
-        let unplaced = described.unplaced(alloc, self)?;
+        let unplaced = described.placed.unplaced(alloc, self)?;
         Ok(Report {
             findings,
             references: references.saturating_add(described.references),
+            led,
             descriptions: described.descriptions,
             places: described.places,
             unplaced,

@@ -4,7 +4,8 @@ ghost use Rattle.serde_json.specs.View.{view};
 ghost use Rattle.ref_findings.specs.Held.{held_source};
 ghost use Rattle.ref_workspace.specs.Workspace as spec;
 
-use crate::sources::{faulty_of, sources_of};
+use crate::led::missing_led;
+use crate::sources::{add_held, faulty_of, sources_of};
 use ref_draft::Draft;
 use ref_error::{Retrieve, RetrieveError};
 use ref_files::{DocumentText, Format};
@@ -132,9 +133,13 @@ impl Workspace {
     ) -> Result<(), AllocError> {
         self.documents.truncate(self.opened);
         self.held.clear();
-        let sources = sources_of(alloc, self.documents.as_slice())?;
-        let held = gather(alloc, self.draft, sources.as_slice(), retriever, usize::MAX)?;
-        drop(sources);
+        self.gather_all(alloc, retriever)?;
+        self.retrieve_parts(alloc, retriever)
+    }
+
+    // Retrieves what is wanted where keywords lead, of all documents that there are.
+    fn gather_all<R: Retrieve>(&mut self, alloc: Global, retriever: &R) -> Result<(), AllocError> {
+        let held = self.gathered(alloc, retriever)?;
         let faulty = faulty_of(alloc, self.draft, held.as_slice())?;
         for (document, is_faulty) in held.into_iter().zip(faulty.into_iter()) {
             if is_faulty {
@@ -143,10 +148,16 @@ impl Workspace {
                 push_held(&mut self.held, document)?;
             }
         }
-        self.retrieve_parts(alloc, retriever)
+        Ok(())
     }
 
-    // Retrieves what descriptions want, again and again, each document once.
+    fn gathered<R: Retrieve>(&self, alloc: Global, retriever: &R) -> Result<Vec<Held>, AllocError> {
+        let mut sources = sources_of(alloc, self.documents.as_slice())?;
+        add_held(&mut sources, self.held.as_slice())?;
+        gather(alloc, self.draft, sources.as_slice(), retriever, usize::MAX)
+    }
+
+    // Retrieves what descriptions want, and what schemas lead to where no keyword does, and then what these want, again and again, each document once.
     fn retrieve_parts<R: Retrieve>(
         &mut self,
         alloc: Global,
@@ -155,7 +166,9 @@ impl Workspace {
         let mut tried = BTreeMap::new(alloc);
         for _ in 0..u64::MAX {
             let mut is_any_new = false;
-            for uri in self.missing_parts(alloc)? {
+            let mut missing = self.missing_parts(alloc)?;
+            missing.append(&mut missing_led(alloc, self)?)?;
+            for uri in missing {
                 let text = String::from_str(alloc, uri.as_str())?;
                 if tried.insert(text, ())?.is_none() {
                     is_any_new = true;
@@ -165,6 +178,7 @@ impl Workspace {
             if !is_any_new {
                 break;
             }
+            self.gather_all(alloc, retriever)?;
         }
         Ok(())
     }

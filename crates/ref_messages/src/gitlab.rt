@@ -1,0 +1,59 @@
+//! Messages as a report on code quality, as GitLab reads it.
+use crate::members::{push_number, push_text};
+use crate::message::{Level, Message};
+use std::alloc::{AllocError, Global};
+
+/// Adds a list with an object for each message. The fingerprint of a message is a text of its rule, its file, its pointer, its keyword and what is under
+/// that, so that it stays where lines are added above it.
+pub fn push_gitlab(
+    alloc: Global,
+    out: &mut String,
+    messages: &[Message<'_>],
+) -> Result<(), AllocError> {
+    out.push('[')?;
+    for number in 0..messages.len() {
+        out.push_str(if number == 0 { "\n" } else { ",\n" })?;
+        push_issue(alloc, out, &messages[number])?;
+    }
+    out.push_str("\n]\n")
+}
+
+fn push_issue(alloc: Global, out: &mut String, message: &Message<'_>) -> Result<(), AllocError> {
+    let text = text_of(message)?;
+    push_text(alloc, out, "{\"description\":", text.as_str())?;
+    push_text(alloc, out, ",\"check_name\":", message.code)?;
+    let print = fingerprint(alloc, message)?;
+    push_text(alloc, out, ",\"fingerprint\":", print.as_str())?;
+    push_text(alloc, out, ",\"severity\":", severity(message.level))?;
+    push_text(alloc, out, ",\"location\":{\"path\":", message.file)?;
+    push_number(out, ",\"lines\":{\"begin\":", message.line)?;
+    out.push_str("}}}")
+}
+
+fn severity(level: Level) -> &'static str {
+    match level {
+        Level::Error => "major",
+        Level::Warning => "minor",
+        Level::Note => "info",
+    }
+}
+
+// What a message says, in one text.
+fn text_of(message: &Message<'_>) -> Result<String, AllocError> {
+    let mut text = message.text.clone()?;
+    if let (Some(keyword), Some(reference)) = (message.keyword, message.reference) {
+        write!(text, " ({keyword} '{reference}')")?;
+    }
+    if let Some(suggestion) = &message.suggestion {
+        write!(text, ", did you mean '{suggestion}'?")?;
+    }
+    Ok(text)
+}
+
+fn fingerprint(alloc: Global, message: &Message<'_>) -> Result<String, AllocError> {
+    let pointer = message.pointer.as_str();
+    let keyword = message.keyword.unwrap_or("");
+    let reference = message.reference.unwrap_or("");
+    let (code, file) = (message.code, message.file);
+    format!(in alloc; "{code} {file} {pointer} {keyword} {reference}")
+}

@@ -1,0 +1,205 @@
+//! What references of schemas lead to where no keyword does, as grouped definitions: the places there, and what is wrong with their
+//! references.
+use crate::described::{
+    Described, Description, Fault, Numbered, add_fault, each_once, faults_in, kept,
+    numbered_sources, pointer_at,
+};
+use crate::finding::Finding;
+use crate::placed::members_in;
+use crate::workspace::Workspace;
+use ref_descriptions::references;
+use ref_reach::{Documents, Place, Reached, Schemas, documents_of, reach_schemas, schemas_of};
+use ref_uri::Uri;
+use std::alloc::{AllocError, Global};
+use std::collections::BTreeSet;
+
+/// Adds what is wrong with the references of what schemas lead to where no keyword does, in documents that are asked about; and returns
+/// how many references there are; and which references of schemas lead to objects of another kind in descriptions. `references` is how many their
+/// own places have: where no more are in the documents, and there are no descriptions, nothing is looked for. Fails only if out of memory.
+pub(crate) fn add_led<'d>(
+    alloc: Global,
+    workspace: &'d Workspace,
+    references: usize,
+    described: &mut Described,
+    list: &mut Vec<Finding<'d>>,
+) -> Result<usize, AllocError> {
+    let is_any = described.is_any() || members_of(alloc, workspace, described)? != references;
+    for number in 0..workspace.asked() {
+        described.look_at(number, is_any);
+    }
+    if !is_any {
+        return Ok(0);
+    }
+    let Led { faults, references } = led_of(alloc, workspace, described)?;
+    for fault in faults {
+        add_fault(workspace, fault, list)?;
+    }
+    Ok(references)
+}
+
+/// The URIs of documents that references of what schemas lead to point into and that aren't there, in the order in which they are met; a URI
+/// may come more than once. Fails only if out of memory.
+pub(crate) fn missing_led(alloc: Global, workspace: &Workspace) -> Result<Vec<Uri>, AllocError> {
+    let mut described = Described::of(alloc, workspace)?;
+    let Led { faults, .. } = led_of(alloc, workspace, &mut described)?;
+    drop(described);
+    missing_in(alloc, workspace, faults.as_slice())
+}
+
+fn missing_in(
+    alloc: Global,
+    workspace: &Workspace,
+    faults: &[Fault<'_>],
+) -> Result<Vec<Uri>, AllocError> {
+    let mut uris = Vec::new(alloc);
+    for fault in faults {
+        workspace.push_missing(&mut uris, &fault.problem)?;
+    }
+    Ok(uris)
+}
+
+// What is wrong with the references of what schemas lead to, and how many of these are in documents that are asked about.
+#[derive(Drop)]
+struct Led<'d> {
+    faults: Vec<Fault<'d>>,
+    references: usize,
+}
+
+// How many members of those documents that are asked about and are no descriptions may be references.
+fn members_of(
+    alloc: Global,
+    workspace: &Workspace,
+    described: &Described,
+) -> Result<usize, AllocError> {
+    let mut count: usize = 0;
+    for (number, document) in workspace.asked_about().iter().enumerate() {
+        if !described.is_described_at(number) {
+            if let Some(value) = document.value() {
+                count = count.saturating_add(members_in(alloc, value)?);
+            }
+        }
+    }
+    Ok(count)
+}
+
+fn led_of<'d>(
+    alloc: Global,
+    workspace: &Workspace,
+    described: &mut Described,
+) -> Result<Led<'d>, AllocError> {
+    let numbered = numbered_sources(alloc, workspace)?;
+    led_by(alloc, workspace, &numbered, described)
+}
+
+fn led_by<'d>(
+    alloc: Global,
+    workspace: &Workspace,
+    numbered: &Numbered<'_>,
+    described: &mut Described,
+) -> Result<Led<'d>, AllocError> {
+    let documents = documents_of(alloc, workspace.draft(), numbered.sources.as_slice())?;
+    let documents = kept(alloc, documents)?;
+    let numbers = numbered.numbers.as_slice();
+    led_among(alloc, workspace, numbers, documents, described)
+}
+
+// The places that schemas have by themselves.
+fn schemas_among<'r>(
+    alloc: Global,
+    workspace: &Workspace,
+    numbers: &[usize],
+    documents: &Documents<'r>,
+    described: &Described,
+) -> Result<Schemas<'r>, AllocError> {
+    let mut plain = Vec::new(alloc);
+    for (number, source) in numbers.iter().enumerate() {
+        if !described.is_described_at(*source) {
+            push(&mut plain, number)?;
+        }
+    }
+    schemas_of(alloc, documents, workspace.draft(), plain.as_slice())
+}
+
+fn push(list: &mut Vec<usize>, number: usize) -> Result<(), AllocError> {
+    list.push(number)?;
+    Ok(())
+}
+
+fn led_among<'d, 'r>(
+    alloc: Global,
+    workspace: &Workspace,
+    numbers: &[usize],
+    documents: &'r Documents<'r>,
+    described: &mut Described,
+) -> Result<Led<'d>, AllocError> {
+    let schemas = schemas_among(alloc, workspace, numbers, documents, &*described)?;
+    let reached = reach_schemas(alloc, documents, &schemas)?;
+    let asked = workspace.asked();
+    described
+        .placed
+        .add_all(alloc, asked, numbers, schemas.places())?;
+    let places = reached.places.as_slice();
+    let references = references_in(alloc, asked, numbers, places, described)?;
+    let faults = faults_in(alloc, numbers, schemas.places(), reached)?;
+    let faults = each_once(alloc, faults)?;
+    Ok(Led { faults, references })
+}
+
+// Notes which texts are in these places, and returns how many references those have that are in documents that are asked about, of each once.
+fn references_in(
+    alloc: Global,
+    asked: usize,
+    numbers: &[usize],
+    places: &[Place<'_>],
+    described: &mut Described,
+) -> Result<usize, AllocError> {
+    let mut count: usize = 0;
+    let mut seen = BTreeSet::new(alloc);
+    for place in places {
+        let number = numbers.get(place.document).copied().unwrap_or(usize::MAX);
+        if number < asked {
+            described.placed.add(alloc, number, place)?;
+            if seen.insert((number, pointer_at(alloc, place)?))? {
+                let references = references(alloc, place.reading, place.value)?;
+                count = count.saturating_add(references.len());
+            }
+        }
+    }
+    Ok(count)
+}
+
+/// Adds what schemas lead to where no keyword does, with the references of these places. Fails only if out of memory.
+pub(crate) fn add_led_places<'d>(
+    alloc: Global,
+    workspace: &Workspace,
+    described: &Described,
+    description: &mut Description<'d>,
+) -> Result<(), AllocError> {
+    let numbered = numbered_sources(alloc, workspace)?;
+    add_places_by(alloc, workspace, &numbered, described, description)
+}
+
+fn add_places_by<'d>(
+    alloc: Global,
+    workspace: &Workspace,
+    numbered: &Numbered<'_>,
+    described: &Described,
+    description: &mut Description<'d>,
+) -> Result<(), AllocError> {
+    let documents = documents_of(alloc, workspace.draft(), numbered.sources.as_slice())?;
+    let documents = kept(alloc, documents)?;
+    let numbers = numbered.numbers.as_slice();
+    let reached = reached_in(alloc, workspace, numbers, documents, described)?;
+    description.add_places(alloc, workspace, numbers, reached.places.as_slice())
+}
+
+fn reached_in<'r>(
+    alloc: Global,
+    workspace: &Workspace,
+    numbers: &[usize],
+    documents: &'r Documents<'r>,
+    described: &Described,
+) -> Result<Reached<'r>, AllocError> {
+    let schemas = schemas_among(alloc, workspace, numbers, documents, described)?;
+    reach_schemas(alloc, documents, &schemas)
+}
