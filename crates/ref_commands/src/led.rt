@@ -13,7 +13,7 @@ impl<'s, 'a, 'd, 'm, 'w, 'o> Sources<'s, 'a, 'd, 'm, 'w, 'o> {
     /// reference and not what it refers to.
     pub(crate) fn say_left_behind(&self, needed: &[bool]) -> Result<bool, Stop> {
         let alloc = self.rt.alloc();
-        let description = self.opened.workspace.description(alloc)?;
+        let description = self.opened.workspace.description(alloc, true)?;
         let bearers = bearers(alloc, self.world)?;
         let mut is_any = false;
         for reference in &description.references {

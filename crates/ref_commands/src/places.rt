@@ -56,7 +56,7 @@ fn list_all(
     workspace: &Workspace,
     world: &World<'_>,
 ) -> Result<(), Stop> {
-    let description = workspace.description(alloc)?;
+    let description = workspace.description(alloc, true)?;
     let places = world.places(alloc)?;
     let mut rest = places.as_slice();
     for (number, source) in world.sources.iter().enumerate() {

@@ -59,7 +59,7 @@ fn push_kind(
     number: usize,
     pointer: &str,
 ) -> Result<(), AllocError> {
-    let description = workspace.description(alloc)?;
+    let description = workspace.description(alloc, false)?;
     for place in &description.places {
         let here = pointer_of(alloc, place.path.as_slice())?;
         if place.document == number && here.as_str() == pointer {

@@ -412,9 +412,14 @@ fn texts_at<'d>(
 }
 
 impl Workspace {
-    /// The places of the descriptions among the documents, and of what their references lead to, with the references of these; and after them
-    /// what the references of schemas lead to where no keyword does. Fails only if out of memory.
-    pub fn description<'d>(&'d self, alloc: Global) -> Result<Description<'d>, AllocError> {
+    /// The places of the descriptions among the documents, and of what their references lead to, with the references of these; and after them,
+    /// where it is asked for, what the references of schemas lead to where no keyword does. Fails only if out of memory. Linear; what
+    /// schemas lead to takes a walk over all documents.
+    pub fn description<'d>(
+        &'d self,
+        alloc: Global,
+        has_led: bool,
+    ) -> Result<Description<'d>, AllocError> {
         let mut described = Described::of(alloc, self)?;
         let mut description = Description {
             places: Vec::new(alloc),
@@ -424,7 +429,9 @@ impl Workspace {
         if described.is_any() {
             self.describe(alloc, &mut described, &mut description)?;
         }
-        add_led_places(alloc, self, &described, &mut description)?;
+        if has_led {
+            add_led_places(alloc, self, &described, &mut description)?;
+        }
         description.is_described = described.into_flags();
         Ok(description)
     }

@@ -16,11 +16,12 @@ use std::collections::BTreeMap;
 /// The documents, with how many references lead from one into another, and how many of these are unresolvable:
 /// all, or those that refer to one or are referred to.
 pub fn graph_of(alloc: Global, workspace: &Workspace, is_connected: bool) -> Result<Graph, Error> {
-    let list = workspace.full_report(alloc)?.findings;
+    let report = workspace.full_report(alloc)?;
     let trees = workspace.mended(alloc)?;
     let world = world_of(alloc, workspace, trees.as_slice())?;
-    let description = workspace.description(alloc)?;
-    let mut graph = drawn(alloc, workspace, &world, &description, list.as_slice())?;
+    let description = workspace.description(alloc, report.led > 0)?;
+    let findings = report.findings.as_slice();
+    let mut graph = drawn(alloc, workspace, &world, &description, findings)?;
     if is_connected {
         graph.leave_out_lone();
     }
