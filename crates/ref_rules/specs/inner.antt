@@ -1,0 +1,2 @@
+-- What no public clause cites.
+pub mod Adding
