@@ -1,0 +1,13 @@
+use Rattle.std.proofs.Common.{◌≡◌, ◌≤◌, ◌∷◌, List, ◌+◌}
+use Rattle.ref_patterns.specs.declared.pattern.Part.{Part}
+use Rattle.ref_patterns.specs.declared.pattern.Part.TheVariants as part
+use Rattle.ref_patterns.specs.Patterns.{after_character}
+use Rattle.ref_patterns.specs.inner.Ends.{AreOf, end_of, matched}
+use Rattle.ref_patterns.proofs.matching.Ends.with_character.Given as goal
+
+abbrev pub invariant-loop-bytes : goal.invariant-loop-bytes
+invariant-loop-bytes l =
+    ((p : List Part) → AreOf p l.path l.self.are_matched.items
+    → l.ends.are_matched.items ≡ matched (part.Character ∷ p) l.path (l.bytes + 1))
+    × (after_character (end_of l.path l.bytes) ≡ end_of l.path l.after)
+    × (l.after ≤ l.bytes)

@@ -1,0 +1,12 @@
+use Rattle.std.proofs.Common.{◌≡◌, ◌∷◌, List, ◌+◌}
+use Rattle.ref_patterns.specs.declared.pattern.Part.{Part}
+use Rattle.ref_patterns.specs.declared.pattern.Part.TheVariants as part
+use Rattle.ref_patterns.specs.Patterns.{matches, after_slash}
+use Rattle.ref_patterns.specs.inner.Ends.{AreOf, end_of, matched}
+use Rattle.ref_patterns.proofs.matching.Ends.with_folders.Given as goal
+
+abbrev pub invariant-loop-bytes : goal.invariant-loop-bytes
+invariant-loop-bytes l =
+    (p : List Part) → AreOf p l.path l.self.are_matched.items
+    → (l.ends.are_matched.items ≡ matched (part.Folders ∷ p) l.path (l.bytes + 1))
+    × (l.is_after ≡ after_slash (matches p) (end_of l.path l.bytes))
