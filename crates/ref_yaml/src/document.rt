@@ -123,6 +123,7 @@ impl<'t> Document<'t> {
     /// text. It has one value: a scalar, or all from a beginning to its end. They are ten for each byte of the text at most,
     /// or a million where that is more.
     pub fn events(&self) -> &[Event]
+        ensures value { result.now ≡ self.now.events.items }
         ensures within { All (IsWithin (length self.now.text.now)) result.now }
         ensures in_place { All (IsInPlace self.now.text.now) result.now }
         ensures some { 0 < length result.now }
