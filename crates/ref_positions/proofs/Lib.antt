@@ -1,2 +1,7 @@
+pub mod Counted
 pub mod Indexes
 pub mod Paths
+pub mod Spots
+pub mod Tokens
+pub mod Tree
+pub mod Walks

@@ -117,7 +117,7 @@ some_below : (o : Option Path) (t s : PathStep) (p : Path) → option_map (λ x.
 some_below None t s p h = cc
 some_below (Some x) t s p h = (cc, cc)
 
-in_list : (ps : List (Option Path)) (i : ℕ) (p : Path) → get_or ps i None ≡ Some p → i < length ps
+pub in_list : (ps : List (Option Path)) (i : ℕ) (p : Path) → get_or ps i None ≡ Some p → i < length ps
 in_list [] i p h = cc
 in_list (x ∷ ps) zero p h = omega arith
 in_list (x ∷ ps) (suc i) p h = let later = in_list ps i p h in omega arith
@@ -126,7 +126,7 @@ next_some : (ps : List (Option Path)) (e : Entry) (s : PathStep) (p : Path) → 
 next_some [] e s p h = cc
 next_some (x ∷ ps) e s p h = some_below (get_or (x ∷ ps) e.above None) (step_of e.step) s p h
 
-stood : (ps : List (Option Path)) (es : List Entry) (j n : ℕ) (d : Entry) (s : PathStep) (p : Path) → j < length es → n ≡ length ps + j → get_or (paths_from ps es) n None ≡ Some (s ∷ p)
+pub stood : (ps : List (Option Path)) (es : List Entry) (j n : ℕ) (d : Entry) (s : PathStep) (p : Path) → j < length es → n ≡ length ps + j → get_or (paths_from ps es) n None ≡ Some (s ∷ p)
     → ((get_or es j d).above < n) × (get_or (paths_from ps es) (get_or es j d).above None ≡ Some p) × (step_of (get_or es j d).step ≡ s)
 stood ps [] j n d s p h is g = absurd (none_in j h)
 stood ps (e ∷ es) zero n d s p h is g =

@@ -1,5 +1,9 @@
+pub mod Events
 pub mod Formats
 pub mod Lines
+pub mod Located
+pub mod Parts
 pub mod Paths
 pub mod Places
 pub mod Rows
+pub mod Walks

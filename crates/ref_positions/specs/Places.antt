@@ -2,7 +2,7 @@
 use Rattle.std.specs.Prelude.{ℕ, ◌≡◌, ◌<◌, ◌≤◌, List, [], ◌∷◌, ◌++◌, Option, Some, None, string_bytes, get_or, length, slice_get, option_and_then}
 use Rattle.std.specs.BTreeMap.{get_by_text, get}
 use Rattle.std.specs.Ordering.{nat_cmp, ordering_then}
-use Rattle.ref_positions.specs.Paths.{Step as PathStep, member, item, Path, below}
+use Rattle.ref_positions.specs.Paths.{Step as PathStep, member, item, Path, below, number_of}
 use Rattle.ref_positions.specs.declared.places.Entry.{Entry}
 use Rattle.ref_positions.specs.declared.places.Step.{Step}
 use Rattle.ref_positions.specs.declared.places.Index.{Index}
@@ -48,3 +48,9 @@ pub record IsEntry (es : List Entry) (n place : ℕ) (by : PathStep) : Type 0 wh
 -- what an index had for other steps, it has
 abbrev pub KeepsOthers : Index → Index → ℕ → PathStep → Type 0
 KeepsOthers old new place step = (n k : ℕ) (s : PathStep) → ((n ≡ place) → (s ≡ step) → ⊥) → indexed old n s ≡ Some k → indexed new n s ≡ Some k
+
+-- numbers stand for paths of which each but that of the whole value is below another one
+pub record IsTree (paths : List (Option Path)) : Type 0 where
+  pub whole : number_of paths [] ≡ Some 0
+  pub closed : (s : PathStep) (p : Path) → number_of paths p ≡ None → number_of paths (s ∷ p) ≡ None
+  pub distinct : (i j : ℕ) (p : Path) → get_or paths i None ≡ Some p → get_or paths j None ≡ Some p → i ≡ j

@@ -1,6 +1,15 @@
--- A literal text for rows that compute.
-use Rattle.std.specs.Prelude.{ℕ, List, [], ◌∷◌}
+-- Literals for rows that compute.
+use Rattle.std.specs.Prelude.{ℕ, List, [], ◌∷◌, codes}
+use Rattle.ref_positions.specs.Parts.{Token, key, object, array, scalar, close}
 
 -- U+00E9, U+20AC and U+1F600, of two, three and four bytes (RFC 3629, 3)
 abbrev pub letters : List ℕ
 letters = 195 ∷ 169 ∷ 226 ∷ 130 ∷ 172 ∷ 240 ∷ 159 ∷ 152 ∷ 128 ∷ []
+
+-- what a text has that begins with `{"a": [1, 2], "b": 3}`
+abbrev pub listed : List Token
+listed = object 0 ∷ key (codes "a") 1 ∷ array 6 ∷ scalar 7 ∷ scalar 10 ∷ close ∷ key (codes "b") 14 ∷ scalar 19 ∷ close ∷ []
+
+-- and one with `{"a": {"b": 1}, "a": {"c": 2}}`, in which a key comes twice
+abbrev pub twice : List Token
+twice = object 0 ∷ key (codes "a") 1 ∷ object 6 ∷ key (codes "b") 7 ∷ scalar 12 ∷ close ∷ key (codes "a") 16 ∷ object 21 ∷ key (codes "c") 22 ∷ scalar 27 ∷ close ∷ close ∷ []

@@ -6,7 +6,8 @@ ghost use Rattle.ref_positions.specs.Lines.{begins_character, next_line, next_co
 ghost use Rattle.ref_positions.specs.declared.format.Format.TheVariants.{Json, Yaml};
 ghost use Rattle.ref_positions.specs.Formats.{format_of};
 ghost use Rattle.ref_positions.specs.Paths.{member, item, below, number_of};
-ghost use Rattle.ref_positions.specs.Rows.{letters};
+ghost use Rattle.ref_positions.specs.Parts.{parts, value, value_in, key_in};
+ghost use Rattle.ref_positions.specs.Rows.{letters, listed, twice};
 
 /// The bytes that begin a character, and those that go on with one (RFC 3629, 3).
 pub fn characters()
@@ -80,4 +81,19 @@ pub fn paths()
     ensures none_before { number_of (None ∷ Some [] ∷ []) [] ≡ Some 1 }
     ensures step { below (Some (item 1 ∷ []) ∷ []) 0 (item 2) ≡ Some (item 2 ∷ item 1 ∷ []) }
     ensures no_number { below (Some [] ∷ []) 7 (item 2) ≡ None }
+{}
+
+/// Where keys and values are, by the number of their token and their offset: of members with the same key the last counts.
+pub fn parts_of_texts()
+    ensures whole { value_in (parts (value []) 0 listed) [] ≡ Some (0, 0) }
+    ensures array { value_in (parts (value []) 0 listed) (member (codes "a") ∷ []) ≡ Some (2, 6) }
+    ensures item { value_in (parts (value []) 0 listed) (item 1 ∷ member (codes "a") ∷ []) ≡ Some (4, 10) }
+    ensures no_item { value_in (parts (value []) 0 listed) (item 2 ∷ member (codes "a") ∷ []) ≡ None }
+    ensures scalar { value_in (parts (value []) 0 listed) (member (codes "b") ∷ []) ≡ Some (7, 19) }
+    ensures key { key_in (parts (value []) 0 listed) (member (codes "b") ∷ []) ≡ Some (6, 14) }
+    ensures no_key { key_in (parts (value []) 0 listed) (item 1 ∷ member (codes "a") ∷ []) ≡ None }
+    ensures last { value_in (parts (value []) 0 twice) (member (codes "a") ∷ []) ≡ Some (7, 21) }
+    ensures last_key { key_in (parts (value []) 0 twice) (member (codes "a") ∷ []) ≡ Some (6, 16) }
+    ensures in_the_last { value_in (parts (value []) 0 twice) (member (codes "c") ∷ member (codes "a") ∷ []) ≡ Some (9, 27) }
+    ensures in_the_first { value_in (parts (value []) 0 twice) (member (codes "b") ∷ member (codes "a") ∷ []) ≡ None }
 {}

@@ -6,12 +6,14 @@
 #![tactic(auto)]
 
 pub mod examples;
+mod find;
 mod format;
 mod locate;
 mod part;
 mod places;
 mod position;
 pub mod splice;
+mod table;
 mod walk;
 
 pub use format::Format;

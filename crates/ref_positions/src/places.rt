@@ -2,7 +2,8 @@
 ghost use Rattle.std.specs.Prelude.{◌≡◌, [], ◌∷◌, Some, None, ◌++◌, IfOk, OnOk, OnErr, IfSome, IfNone, IsTrue, ◌↔◌, ◌≢◌, ◌<◌, ◌≤◌, ℕ, List, string_bytes, get_or, take, length};
 ghost use Rattle.std.specs.BTreeMap.{get_by_text};
 ghost use Rattle.ref_positions.specs.Paths.{member, item, below, Path, number_of};
-ghost use Rattle.ref_positions.specs.Places.{step_of, paths_from, indexed, IsIndexed, IsNew, IsEntry, KeepsOthers};
+ghost use Rattle.ref_positions.specs.Paths.{Step as PathStep};
+ghost use Rattle.ref_positions.specs.Places.{step_of, paths_from, indexed, IsIndexed, IsNew, IsEntry, IsTree, KeepsOthers};
 
 use std::alloc::{AllocError, Global};
 use std::collections::BTreeMap;
@@ -106,7 +107,9 @@ impl Places {
     }
 
     // The place that a place is below.
-    pub(crate) fn above(&self, number: usize) -> usize {
+    pub(crate) fn above(&self, number: usize) -> usize
+        ensures above { (s : PathStep) (p : Path) → get_or self.now number None ≡ Some (s ∷ p) → (get_or self.now result None ≡ Some p) × (result < number) }
+    {
         if number >= self.tree.entries.len() {
             return 0;
         }
@@ -115,6 +118,7 @@ impl Places {
 
     pub(crate) fn len(&self) -> usize
         ensures value { result ≡ length self.now }
+        ensures tree { IsTree self.now }
     {
         self.tree.entries.len()
     }
