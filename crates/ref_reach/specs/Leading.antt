@@ -161,6 +161,21 @@ led known from wanted uri t =
     (own_at known.own t.document (pointer_text t.path))
     (Leads (place_led known (reading_led known from wanted t) t))
 
+-- by the answer of a look-up, and where that is
+abbrev pub target_by_answer : Known → Result Found Fault → Option (ℕ × Spot) → Option Target
+target_by_answer known (Ok found) at = option_and_then (λ l. target_found known found l.1) at
+target_by_answer known (Err fault) at = None
+
+-- what is looked up at a base, with an empty dynamic scope
+abbrev pub at_base : List ℕ → Resolver
+at_base base = record { base = base; scope = [] }
+
+-- what a text of a place leads to, as a reference
+abbrev pub target_by_text : Known → Place → List ℕ → Option Target
+target_by_text known p text =
+    target_by_answer known (lookup (known.layer ∷ []) (at_base p.base) text)
+    (lookup_location (known.layer ∷ []) (at_base p.base) text)
+
 -- ---- what was not found
 
 -- where nothing is under its URI: a document is missing, unless it is the meta-schema of a draft, whose fragments aren't
@@ -173,10 +188,6 @@ missing uri text =
 -- whether a version has schemas of JSON Schema
 abbrev pub is_with_drafts : Option Version → Bool
 is_with_drafts version = is_some version && has_drafts version
-
--- what is looked up at a base, with an empty dynamic scope
-abbrev pub at_base : List ℕ → Resolver
-at_base base = record { base = base; scope = [] }
 
 -- whether a URI is that of a description whose schemas may have anchors: these aren't collected
 abbrev pub is_with_anchors : Known → List ℕ → Option Found → Option (ℕ × Spot) → Bool

@@ -47,14 +47,19 @@ pub(crate) enum Outcome<'r> {
     Wrong(Problem),
 }
 
-// A value that was found, and where.
+/// A value that was found, and where.
 #[derive(Drop)]
-struct Target<'r> {
-    document: usize,
-    path: JsonPointerNode<'r>,
-    value: &'r Value,
-    draft: Draft,
-    base: Rc<Uri>,
+pub struct Target<'r> {
+    /// The number of its document, counted from 0.
+    pub document: usize,
+    /// Its path in the document.
+    pub path: JsonPointerNode<'r>,
+    /// The value, which is the document's own.
+    pub value: &'r Value,
+    /// The draft that the look-up reads it by.
+    pub draft: Draft,
+    /// The base URI there, by the look-up.
+    pub base: Rc<Uri>,
 }
 
 // A path with more segments after it.
@@ -118,8 +123,8 @@ fn value_at<'v>(value: &'v Value, path: &[JsonPointerSegment<'_>]) -> Option<&'v
     Some(value)
 }
 
-// What a look-up found, in the document's own value.
-fn found_at<'r>(
+/// What a look-up found, in the document's own value.
+pub(crate) fn found_at<'r>(
     alloc: Global,
     documents: &'r Documents<'r>,
     resolved: Resolved<'r>,
