@@ -7,6 +7,7 @@
 
 mod buffer;
 pub mod examples;
+mod excluded;
 mod failure;
 pub mod laws;
 mod listing;
@@ -23,6 +24,7 @@ mod why;
 mod write;
 mod yaml;
 
+pub use excluded::{Exclusion, Exclusions, path_from};
 pub use failure::{Failure, Failures};
 pub use listing::{File, Listed, Selection, list_files, list_one};
 pub use maps::{BrokenFile, Map, Maps, is_base};

@@ -1,4 +1,5 @@
 //! The files that paths name, and those below folders.
+use crate::excluded::{Exclusion, Exclusions, Ignored};
 use crate::failure::Failures;
 use crate::path::last_name;
 use ref_positions::Format;
@@ -17,7 +18,9 @@ pub struct Selection<'a> {
     /// Those that references may lead into.
     pub with: Vec<&'a str>,
     /// Those that are left out.
-    pub excluded: Vec<&'a str>,
+    pub excluded: Vec<Exclusion<'a>>,
+    /// Whether what Git leaves out is left out of the folders that are asked about.
+    pub has_ignore: bool,
     /// The path that standard input counts as.
     pub input: &'a str,
     /// Whether each file of YAML below a folder is read.
@@ -31,8 +34,10 @@ pub struct Listed {
     pub files: Vec<File>,
     /// What could not be read.
     pub failures: Failures,
-    /// The paths by which nothing was left out, as they were given.
+    /// The paths and patterns by which nothing was left out, as they were given.
     pub unused: Vec<String>,
+    /// How many files and folders were left out since Git leaves them out.
+    pub ignored: usize,
 }
 
 /// A file that is to be read.
@@ -60,17 +65,6 @@ struct Folder {
     below: String,
 }
 
-// What is left out.
-#[derive(Drop)]
-struct Excluded {
-    // As it was given.
-    given: String,
-    // Its path without links, where it is there.
-    path: Option<String>,
-    // Whether something was left out by it.
-    is_used: bool,
-}
-
 // The files that are to be read.
 #[derive(Drop)]
 struct Listing<'r> {
@@ -78,7 +72,8 @@ struct Listing<'r> {
     // By their absolute paths, so that each is listed once.
     files: BTreeMap<String, File>,
     folders: Vec<Folder>,
-    excluded: Vec<Excluded>,
+    excluded: Exclusions,
+    ignored: Ignored,
     // The path that standard input counts as.
     input: String,
     // Whether what is added is asked about, and not only read.
@@ -96,7 +91,8 @@ impl<'r> Listing<'r> {
             rt,
             files: BTreeMap::new(rt.alloc()),
             folders: Vec::new(rt.alloc()),
-            excluded: Vec::new(rt.alloc()),
+            excluded: Exclusions::new(rt.alloc()),
+            ignored: Ignored::new(rt.alloc(), selection.has_ignore),
             input,
             is_own: true,
             has_yaml: selection.has_yaml,
@@ -104,19 +100,11 @@ impl<'r> Listing<'r> {
         })
     }
 
-    // Leaves out the file at a path, or the files below a folder. A path that isn't there leaves out nothing.
-    fn exclude(&mut self, path: &str) -> Result<(), AllocError> {
-        let given = String::from_str(self.rt.alloc(), path)?;
-        let path = match fs::canonicalize(self.rt, path) {
-            Ok(real) => Some(real.into_string()),
-            Err(error) if error.kind() == io::ErrorKind::OutOfMemory => return Err(AllocError),
-            Err(_) => None,
-        };
-        self.excluded.push(Excluded {
-            given,
-            path,
-            is_used: false,
-        })?;
+    // Leaves out what paths and patterns say.
+    fn exclude_all(&mut self, list: &[Exclusion<'_>]) -> Result<(), AllocError> {
+        for exclusion in list {
+            self.excluded.add(self.rt, &mut self.failures, *exclusion)?;
+        }
         Ok(())
     }
 
@@ -214,24 +202,15 @@ impl<'r> Listing<'r> {
     // What was found.
     fn finish(self) -> Result<Listed, AllocError> {
         let alloc = self.rt.alloc();
-        let unused = unused_of(alloc, self.excluded)?;
+        let ignored = self.ignored.count();
+        let unused = self.excluded.unused()?;
         let files = files_of(alloc, self.files)?;
         Ok(Listed {
             files,
             failures: self.failures,
             unused,
+            ignored,
         })
-    }
-
-    fn is_excluded(&mut self, path: &str) -> bool {
-        let mut is_excluded = false;
-        for excluded in &mut self.excluded {
-            if excluded.has(path) {
-                excluded.is_used = true;
-                is_excluded = true;
-            }
-        }
-        is_excluded
     }
 
     fn add_file(
@@ -241,7 +220,7 @@ impl<'r> Listing<'r> {
         below: String,
         is_optional: bool,
     ) -> Result<(), AllocError> {
-        if self.is_excluded(path.as_str()) {
+        if self.excluded.has(path.as_str())? {
             return Ok(());
         }
         let shown = String::from_str(self.rt.alloc(), shown)?;
@@ -275,6 +254,9 @@ impl<'r> Listing<'r> {
     fn add_folder(&mut self, shown: &str, path: String) -> Result<(), AllocError> {
         let alloc = self.rt.alloc();
         let shown = String::from_str(alloc, without_slash(shown))?;
+        if self.is_own {
+            self.ignored.begin(self.rt, path.as_str())?;
+        }
         self.push_folder(shown, path, String::new(alloc))?;
         for _ in 0..u64::MAX {
             let Some(folder) = self.folders.pop() else {
@@ -282,6 +264,7 @@ impl<'r> Listing<'r> {
             };
             self.list(&folder)?;
         }
+        self.ignored.end();
         Ok(())
     }
 
@@ -291,7 +274,7 @@ impl<'r> Listing<'r> {
         path: String,
         below: String,
     ) -> Result<(), AllocError> {
-        if self.is_excluded(path.as_str()) {
+        if self.excluded.has(path.as_str())? {
             return Ok(());
         }
         self.folders.push(Folder { shown, path, below })?;
@@ -300,6 +283,7 @@ impl<'r> Listing<'r> {
 
     fn list(&mut self, folder: &Folder) -> Result<(), AllocError> {
         let mut has_other_names = false;
+        self.ignored.enter(self.rt, folder.path.as_str())?;
         match fs::read_dir(self.rt, folder.path.as_str()) {
             Ok(entries) => {
                 for entry in entries {
@@ -361,6 +345,9 @@ impl<'r> Listing<'r> {
                 return Ok(());
             }
             let (path, below) = place_in(alloc, folder, name)?;
+            if self.ignored.has(path.as_str(), true)? {
+                return Ok(());
+            }
             return self.push_folder(shown, path, below);
         }
         let is_optional = match Format::of_path(name) {
@@ -370,6 +357,9 @@ impl<'r> Listing<'r> {
         };
         if kind.is_file() {
             let (path, below) = place_in(alloc, folder, name)?;
+            if self.ignored.has(path.as_str(), false)? {
+                return Ok(());
+            }
             return self.add_file(shown.as_str(), path, below, is_optional);
         }
         if is_optional {
@@ -396,9 +386,7 @@ impl<'r> Listing<'r> {
 /// one that leaves out nothing among those that are unused. Fails only if out of memory.
 pub fn list_files(rt: &HostRuntime, selection: &Selection<'_>) -> Result<Listed, AllocError> {
     let mut listing = Listing::new(rt, selection)?;
-    for path in &selection.excluded {
-        listing.exclude(*path)?;
-    }
+    listing.exclude_all(selection.excluded.as_slice())?;
     listing.add_all(selection.paths.as_slice())?;
     listing.is_own = false;
     listing.add_all(selection.with.as_slice())?;
@@ -417,7 +405,12 @@ pub fn list_one(
     listing.add_one(file)?;
     listing.is_own = false;
     if let Some(path) = output {
-        listing.exclude(path)?;
+        listing.exclude_all(&[Exclusion {
+            folder: "",
+            text: path,
+            is_path: true,
+            is_told: false,
+        }])?;
     }
     listing.add_all(selection.with.as_slice())?;
     listing.finish()
@@ -471,30 +464,6 @@ fn files_of(alloc: Global, found: BTreeMap<String, File>) -> Result<Vec<File>, A
         (!file.is_own, file.shown.as_str()).cmp(&(!other.is_own, other.shown.as_str()))
     });
     Ok(files)
-}
-
-// The paths by which nothing was left out.
-fn unused_of(alloc: Global, all: Vec<Excluded>) -> Result<Vec<String>, AllocError> {
-    let mut unused = Vec::new(alloc);
-    for excluded in all {
-        if !excluded.is_used {
-            unused.push(excluded.given)?;
-        }
-    }
-    Ok(unused)
-}
-
-impl Excluded {
-    // Whether it is the file at a path, or a folder that has it below.
-    fn has(&self, path: &str) -> bool {
-        let Some(own) = &self.path else {
-            return false;
-        };
-        match path.strip_prefix(own.as_str()) {
-            Some(rest) => rest.is_empty() || rest.starts_with('/'),
-            None => false,
-        }
-    }
 }
 
 fn without_slash(path: &str) -> &str {
