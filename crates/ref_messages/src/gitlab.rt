@@ -50,7 +50,8 @@ fn text_of(message: &Message<'_>) -> Result<String, AllocError> {
     Ok(text)
 }
 
-fn fingerprint(alloc: Global, message: &Message<'_>) -> Result<String, AllocError> {
+/// A text that stays the same where lines are added above what a message is about.
+pub(crate) fn fingerprint(alloc: Global, message: &Message<'_>) -> Result<String, AllocError> {
     let pointer = message.pointer.as_str();
     let keyword = message.keyword.unwrap_or("");
     let reference = message.reference.unwrap_or("");

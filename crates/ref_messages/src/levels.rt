@@ -1,5 +1,5 @@
 //! Levels that rules are set to.
-ghost use Rattle.std.specs.Prelude.{◌≡◌, map, Some};
+ghost use Rattle.std.specs.Prelude.{◌≡◌, map};
 ghost use Rattle.ref_messages.specs.Levels.{level_by};
 ghost use Rattle.ref_messages.specs.Views.{chosen_of};
 
@@ -30,12 +30,12 @@ impl<'r> Chosen<'r> {
     }
 }
 
-/// The level that findings of a rule have by these choices, of which the last one of a rule counts; `None` where they aren't listed. A rule
+/// The level that findings of a rule have by these choices, of which the last one of a rule counts; `None` where they aren't listed. `own` is the level before them. A rule
 /// that isn't among them keeps its own level. A step for each choice.
-pub fn level_in(choices: &[Chosen<'_>], code: &str, own: Level) -> Option<Level>
-    ensures value { result ≡ level_by (map chosen_of choices.now) code.now (Some own) }
+pub fn level_in(choices: &[Chosen<'_>], code: &str, own: Option<Level>) -> Option<Level>
+    ensures value { result ≡ level_by (map chosen_of choices.now) code.now own }
 {
-    let mut level = Some(own);
+    let mut level = own;
     for chosen in choices {
         if chosen.code == code {
             level = chosen.level;

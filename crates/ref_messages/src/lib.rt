@@ -2,6 +2,9 @@
 //! annotations of GitHub, and reports of JUnit and GitLab.
 #![tactic(auto)]
 
+mod baseline;
+mod excerpt;
+mod full;
 mod github;
 mod gitlab;
 mod graph;
@@ -15,12 +18,16 @@ mod sarif;
 mod suggest;
 mod text;
 
+pub use baseline::Baseline;
+pub use excerpt::Excerpt;
+pub use full::{Color, push_full};
 pub use github::push_annotation;
 pub use gitlab::push_gitlab;
 pub use graph::{Edge, Graph, Node, push_dot, push_mermaid};
 pub use junit::push_junit;
 pub use levels::{Chosen, level_in};
 pub use lines::push_line;
+pub use members::push_quoted;
 pub use message::{Level, Message, Other};
 pub use plain::{Plain, PlainBytes, push_json};
 pub use sarif::{Rule, push_sarif};

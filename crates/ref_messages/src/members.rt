@@ -11,6 +11,11 @@ pub(crate) fn push_text(
     text: &str,
 ) -> Result<(), AllocError> {
     out.push_str(before)?;
+    push_quoted(alloc, out, text)
+}
+
+/// Adds a text as a JSON string, in which what isn't printed as it is, is an escape. It is a basic string of TOML too.
+pub fn push_quoted(alloc: Global, out: &mut String, text: &str) -> Result<(), AllocError> {
     let text = quoted(alloc, text)?;
     push_json(out, text.as_str())
 }

@@ -1,4 +1,5 @@
 //! A message about a place in a file.
+use crate::excerpt::Excerpt;
 
 /// The level of a message.
 #[derive(Clone, Copy, Drop)]
@@ -64,4 +65,6 @@ pub struct Message<'m> {
     pub help: Option<String>,
     /// The place that it clashes with.
     pub first: Option<Other>,
+    /// The line of the file that it is about.
+    pub excerpt: Option<Excerpt<'m>>,
 }

@@ -1,4 +1,5 @@
 //! Messages as a SARIF log (2.1.0).
+use crate::gitlab::fingerprint;
 use crate::members::{push_number, push_text};
 use crate::message::{Message, Other};
 use std::alloc::{AllocError, Global};
@@ -16,17 +17,20 @@ const HEAD: &str =
     "{\"$schema\":\"https://json.schemastore.org/sarif-2.1.0.json\",\"version\":\"2.1.0\",\"runs\":[{\"tool\":{\"driver\":{\"name\":\"patchsard\"";
 
 /// Adds a log of messages, one result a line. Files' names go into it as relative URIs, or `file:` URIs where they are
-/// absolute paths.
+/// absolute paths. A region ends where the marked part of a message's excerpt does. What wasn't looked at, where something wasn't, makes the run an unsuccessful one. The
+/// fingerprint of a result is a text of its rule, its file, its pointer, its keyword and what is under that, so that it stays where lines are added above it.
 pub fn push_sarif(
     alloc: Global,
     out: &mut String,
     version: &str,
     rules: &[Rule],
     messages: &[Message<'_>],
+    unlooked: Option<&str>,
 ) -> Result<(), AllocError> {
     out.push_str(HEAD)?;
     push_text(alloc, out, ",\"version\":", version)?;
     push_rules(alloc, out, rules)?;
+    push_invocation(alloc, out, unlooked)?;
     push_results(alloc, out, messages)
 }
 
@@ -44,6 +48,23 @@ fn push_rule(alloc: Global, out: &mut String, rule: Rule) -> Result<(), AllocErr
     push_text(alloc, out, "{\"id\":", rule.code)?;
     push_text(alloc, out, ",\"shortDescription\":{\"text\":", rule.text)?;
     out.push_str("}}")
+}
+
+// Adds whether all was looked at, and what wasn't.
+fn push_invocation(
+    alloc: Global,
+    out: &mut String,
+    unlooked: Option<&str>,
+) -> Result<(), AllocError> {
+    out.push_str(",\"invocations\":[{\"executionSuccessful\":")?;
+    match unlooked {
+        None => out.push_str("true}]"),
+        Some(why) => {
+            out.push_str("false,\"toolExecutionNotifications\":[{\"level\":\"error\"")?;
+            push_text(alloc, out, ",\"message\":{\"text\":", why)?;
+            out.push_str("}}]}]")
+        }
+    }
 }
 
 // Adds the results, and what ends the log.
@@ -68,13 +89,28 @@ fn push_result(alloc: Global, out: &mut String, message: &Message<'_>) -> Result
         alloc,
         out,
         (",\"locations\":[", message.file),
-        (message.line, message.column),
+        (message.line, message.column, width_of(message)),
         message.pointer.as_str(),
     )?;
     if let Some(first) = &message.first {
         push_related(alloc, out, first)?;
     }
-    out.push('}')
+    let print = fingerprint(alloc, message)?;
+    push_text(
+        alloc,
+        out,
+        ",\"partialFingerprints\":{\"place/v1\":",
+        print.as_str(),
+    )?;
+    out.push_str("}}")
+}
+
+// How many characters the marked part has, where it is known.
+fn width_of(message: &Message<'_>) -> usize {
+    match &message.excerpt {
+        Some(excerpt) => excerpt.marked.chars().count(),
+        None => 0,
+    }
 }
 
 fn push_related(alloc: Global, out: &mut String, first: &Other) -> Result<(), AllocError> {
@@ -82,7 +118,7 @@ fn push_related(alloc: Global, out: &mut String, first: &Other) -> Result<(), Al
         alloc,
         out,
         (",\"relatedLocations\":[", first.file.as_str()),
-        (first.line, first.column),
+        (first.line, first.column, 0),
         first.pointer.as_str(),
     )
 }
@@ -113,13 +149,13 @@ fn push_location(
     alloc: Global,
     out: &mut String,
     (before, file): (&str, &str),
-    (line, column): (usize, usize),
+    (line, column, width): (usize, usize, usize),
     pointer: &str,
 ) -> Result<(), AllocError> {
     out.push_str(before)?;
     push_file(alloc, out, file)?;
     if line != 0 {
-        push_region(out, line, column)?;
+        push_region(out, line, column, width)?;
     }
     push_text(
         alloc,
@@ -141,9 +177,17 @@ fn push_file(alloc: Global, out: &mut String, file: &str) -> Result<(), AllocErr
     out.push('}')
 }
 
-fn push_region(out: &mut String, line: usize, column: usize) -> Result<(), AllocError> {
+fn push_region(
+    out: &mut String,
+    line: usize,
+    column: usize,
+    width: usize,
+) -> Result<(), AllocError> {
     push_number(out, ",\"region\":{\"startLine\":", line)?;
     push_number(out, ",\"startColumn\":", column)?;
+    if width > 0 {
+        push_number(out, ",\"endColumn\":", column.saturating_add(width))?;
+    }
     out.push('}')
 }
 

@@ -1,11 +1,17 @@
 //! Messages as text for people.
+use crate::full::{BOLD, Color, code_of};
 use crate::message::{Message, Other};
 use crate::plain::Plain;
 use std::alloc::AllocError;
 
 /// Adds a message: a line with its place, and lines with what belongs to it, four blanks in.
-pub fn push_text(out: &mut String, message: &Message<'_>) -> Result<(), AllocError> {
-    push_head(out, message)?;
+pub fn push_text(out: &mut String, message: &Message<'_>, color: Color) -> Result<(), AllocError> {
+    push_head(out, message, color)?;
+    push_rest(out, message)
+}
+
+/// Adds what belongs to a message after its first line.
+pub(crate) fn push_rest(out: &mut String, message: &Message<'_>) -> Result<(), AllocError> {
     push_reference(out, message)?;
     if let Some(first) = &message.first {
         push_first(out, first)?;
@@ -19,14 +25,22 @@ pub fn push_text(out: &mut String, message: &Message<'_>) -> Result<(), AllocErr
     }
 }
 
-fn push_head(out: &mut String, message: &Message<'_>) -> Result<(), AllocError> {
+/// Adds the first line of a message: its place, its level and its rule, and what is wrong.
+pub(crate) fn push_head(
+    out: &mut String,
+    message: &Message<'_>,
+    color: Color,
+) -> Result<(), AllocError> {
     let (file, line, column) = (Plain(message.file), message.line, message.column);
-    let (level, code, text) = (message.level.name(), message.code, message.text.as_str());
-    write!(
-        out,
-        "{file}:{line}:{column}: {level}[{code}]: {}\n",
-        Plain(text)
-    )
+    let (level, code) = (message.level.name(), message.code);
+    color.begin(out, BOLD)?;
+    write!(out, "{file}:{line}:{column}:")?;
+    color.end(out)?;
+    out.push(' ')?;
+    color.begin(out, code_of(message.level))?;
+    write!(out, "{level}[{code}]")?;
+    color.end(out)?;
+    write!(out, ": {}\n", Plain(message.text.as_str()))
 }
 
 fn push_reference(out: &mut String, message: &Message<'_>) -> Result<(), AllocError> {
