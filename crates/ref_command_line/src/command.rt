@@ -34,14 +34,21 @@ enum Word {
     With,
     StdinPath,
     Exclude,
+    NoIgnore,
+    Config,
+    NoConfig,
+    PrintConfig,
     Yaml,
     Verbose,
     Quiet,
     Rule,
     Level,
     MaxWarnings,
+    Baseline,
+    WriteBaseline,
     Statistics,
     Format,
+    Color,
     Language,
     Connected,
     Output,
@@ -76,7 +83,9 @@ struct Row<'c> {
     help: &'c str,
 }
 
-const FORMATS: &[&str] = &["text", "json", "sarif", "github", "gitlab", "junit"];
+const FORMATS: &[&str] = &["text", "full", "json", "sarif", "github", "gitlab", "junit"];
+
+const COLORS: &[&str] = &["auto", "always", "never"];
 
 const LEVELS: &[&str] = &["error", "warning", "note"];
 
@@ -187,6 +196,7 @@ fn words_of(subcommand: Subcommand) -> &'static [Word] {
             Word::Paths,
             Word::With,
             Word::Exclude,
+            Word::NoIgnore,
             Word::StdinPath,
             Word::Yaml,
             Word::Verbose,
@@ -194,8 +204,14 @@ fn words_of(subcommand: Subcommand) -> &'static [Word] {
             Word::Rule,
             Word::Level,
             Word::MaxWarnings,
+            Word::Baseline,
+            Word::WriteBaseline,
+            Word::Config,
+            Word::NoConfig,
+            Word::PrintConfig,
             Word::Statistics,
             Word::Format,
+            Word::Color,
             Word::Base,
             Word::Draft,
             Word::Map,
@@ -206,6 +222,8 @@ fn words_of(subcommand: Subcommand) -> &'static [Word] {
             Word::From,
             Word::With,
             Word::StdinPath,
+            Word::Config,
+            Word::NoConfig,
             Word::Yaml,
             Word::Base,
             Word::Draft,
@@ -214,6 +232,8 @@ fn words_of(subcommand: Subcommand) -> &'static [Word] {
         Subcommand::Bundle => &[
             Word::RootFile,
             Word::With,
+            Word::Config,
+            Word::NoConfig,
             Word::Yaml,
             Word::Output,
             Word::Minify,
@@ -225,6 +245,9 @@ fn words_of(subcommand: Subcommand) -> &'static [Word] {
         Subcommand::Places => &[
             Word::Paths,
             Word::Exclude,
+            Word::NoIgnore,
+            Word::Config,
+            Word::NoConfig,
             Word::Yaml,
             Word::Base,
             Word::Draft,
@@ -233,6 +256,9 @@ fn words_of(subcommand: Subcommand) -> &'static [Word] {
         Subcommand::Graph => &[
             Word::Paths,
             Word::Exclude,
+            Word::NoIgnore,
+            Word::Config,
+            Word::NoConfig,
             Word::Yaml,
             Word::Language,
             Word::Connected,
@@ -252,11 +278,12 @@ fn arg_of<'c>(alloc: Global, word: Word) -> Arg<'c> {
         Word::Output => arg.short('o'),
         Word::Verbose => arg.short('v'),
         Word::Quiet => arg.short('q'),
-        Word::Level => arg.value_parser(LEVELS).default_value("note"),
+        Word::Level => arg.value_parser(LEVELS),
         Word::From => arg.default_value("").allow_hyphen_values(true),
-        Word::Format => arg.value_parser(FORMATS).default_value("text"),
+        Word::Format => arg.value_parser(FORMATS),
+        Word::Color => arg.value_parser(COLORS).default_value("auto"),
         Word::Language => arg.value_parser(DRAWINGS).default_value("mermaid"),
-        Word::Draft => arg.value_parser(DRAFTS).default_value("2020-12"),
+        Word::Draft => arg.value_parser(DRAFTS),
         _ => arg,
     }
 }
@@ -267,7 +294,7 @@ fn plain_arg<'c>(alloc: Global, row: Row<'c>) -> Arg<'c> {
         .action(action_of(row.kind));
     match row.kind {
         Kind::Place => arg.value_name(row.value).required(true),
-        Kind::Places => arg.value_name(row.value).required(true).num_args(1..),
+        Kind::Places => arg.value_name(row.value).num_args(0..),
         Kind::Value | Kind::Values => arg.value_name(row.value).long(row.name),
         Kind::Flag => arg.long(row.name),
     }
@@ -344,7 +371,26 @@ fn row_of<'c>(word: Word) -> Row<'c> {
             "exclude",
             "PATH",
             Kind::Values,
-            "Leave out this file, or what is below this folder; may be repeated",
+            "Leave out this file, what is below this folder, or what a pattern of paths matches, as **/test/*.json; may be repeated",
+        ),
+        Word::NoIgnore => named(
+            "no-ignore",
+            "",
+            Kind::Flag,
+            "Also read what .gitignore leaves out of folders in a repository",
+        ),
+        Word::Config => named(
+            "config",
+            "FILE",
+            Kind::Value,
+            "The configuration; without it patchsard.toml in this folder or the next one above that has it",
+        ),
+        Word::NoConfig => named("no-config", "", Kind::Flag, "Read no configuration"),
+        Word::PrintConfig => named(
+            "print-config",
+            "",
+            Kind::Flag,
+            "Print what the configuration and the command line ask for, as a configuration, and read nothing",
         ),
         Word::Yaml => named(
             "yaml",
@@ -374,7 +420,7 @@ fn row_of<'c>(word: Word) -> Row<'c> {
             "level",
             "LEVEL",
             Kind::Value,
-            "List findings of this level and above; all are counted",
+            "List findings of this level and above, without it those of note; all are counted",
         ),
         Word::MaxWarnings => named(
             "max-warnings",
@@ -382,13 +428,36 @@ fn row_of<'c>(word: Word) -> Row<'c> {
             Kind::Value,
             "End with status 1 where there are more warnings than this",
         ),
+        Word::Baseline => named(
+            "baseline",
+            "FILE",
+            Kind::Value,
+            "Neither list nor count the findings that this file has, as --write-baseline writes it",
+        ),
+        Word::WriteBaseline => named(
+            "write-baseline",
+            "",
+            Kind::Flag,
+            "Write all findings to the file of --baseline, so that they are known from then on",
+        ),
         Word::Statistics => named(
             "statistics",
             "",
             Kind::Flag,
             "Also print how many findings each rule has",
         ),
-        Word::Format => named("format", "FORMAT", Kind::Value, "How findings are printed"),
+        Word::Format => named(
+            "format",
+            "FORMAT",
+            Kind::Value,
+            "How findings are printed; full is text with the line of the file. On a terminal it is full, and else text",
+        ),
+        Word::Color => named(
+            "color",
+            "WHEN",
+            Kind::Value,
+            "Whether text has colours: auto is on a terminal, unless NO_COLOR is set",
+        ),
         Word::Language => named(
             "format",
             "FORMAT",
@@ -429,7 +498,7 @@ fn row_of<'c>(word: Word) -> Row<'c> {
             "draft",
             "DRAFT",
             Kind::Value,
-            "The draft of files that name none",
+            "The draft of files that name none; without it 2020-12",
         ),
         Word::Map => named(
             "map",

@@ -3,11 +3,13 @@
 #![tactic(auto)]
 
 pub mod command;
+mod configured;
 pub mod console;
 pub mod options;
 mod said;
 pub mod stop;
 
+pub use configured::{Configured, find_configuration};
 pub use console::Console;
 pub use options::Reading;
 pub use said::{say, say_failures, say_of};

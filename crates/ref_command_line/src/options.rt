@@ -1,8 +1,9 @@
 //! What subcommands are asked with.
+use crate::configured::Configured;
 use crate::stop::Stop;
 use clap::ArgMatches;
 use ref_draft::Draft;
-use ref_files::{Map, Maps, Selection, is_base};
+use ref_files::{Exclusion, Map, Maps, Selection, is_base};
 use ref_messages::Plain;
 use std::alloc::{AllocError, Global};
 
@@ -21,9 +22,17 @@ pub struct Reading<'a> {
     pub maps: Vec<&'a str>,
 }
 
-/// What a command line asks to be read.
-pub fn reading_of<'a>(rt: &HostRuntime, given: &ArgMatches<'a>) -> Result<Reading<'a>, Stop> {
-    let base = given.get_str("base");
+/// What a command line and a configuration ask to be read. What the command line says counts before the configuration, and what of lists both say counts together; but
+/// the paths of the configuration are those that are asked about only where the command line names none.
+pub fn reading_of<'a>(
+    rt: &HostRuntime,
+    given: &ArgMatches<'a>,
+    configured: &'a Configured,
+) -> Result<Reading<'a>, Stop> {
+    let base = match given.get_str("base") {
+        Some(base) => Some(base),
+        None => text_of(&configured.configuration.base),
+    };
     if let Some(base) = base {
         if !is_base(base) {
             let _ = eprintln!(rt;
@@ -33,13 +42,11 @@ pub fn reading_of<'a>(rt: &HostRuntime, given: &ArgMatches<'a>) -> Result<Readin
             return Err(Stop::Reported);
         }
     }
-    let draft = match given.get_str("draft").and_then(Draft::from_name) {
-        Some(draft) => draft,
-        None => Draft::Draft202012,
-    };
+    let draft = draft_of(given, configured);
     let file = given.get_str("file").unwrap_or("");
-    let selection = selection_of(rt.alloc(), given)?;
-    let maps = list_of(rt.alloc(), given, "map")?;
+    let selection = selection_of(rt.alloc(), given, configured)?;
+    let mut maps = list_of(rt.alloc(), given, "map")?;
+    push_texts(&mut maps, configured.maps.as_slice())?;
     Ok(Reading {
         selection,
         file,
@@ -49,17 +56,78 @@ pub fn reading_of<'a>(rt: &HostRuntime, given: &ArgMatches<'a>) -> Result<Readin
     })
 }
 
-fn selection_of<'a>(alloc: Global, given: &ArgMatches<'a>) -> Result<Selection<'a>, AllocError> {
-    let paths = list_of(alloc, given, "paths")?;
-    let with = list_of(alloc, given, "with")?;
-    let excluded = list_of(alloc, given, "exclude")?;
+fn text_of(text: &Option<String>) -> Option<&str> {
+    match text {
+        Some(text) => Some(text.as_str()),
+        None => None,
+    }
+}
+
+// The draft of files that name none.
+fn draft_of(given: &ArgMatches<'_>, configured: &Configured) -> Draft {
+    let name = match given.get_str("draft") {
+        Some(name) => Some(name),
+        None => text_of(&configured.configuration.draft),
+    };
+    match name.and_then(Draft::from_name) {
+        Some(draft) => draft,
+        None => Draft::Draft202012,
+    }
+}
+
+fn push_texts<'a>(list: &mut Vec<&'a str>, texts: &'a [String]) -> Result<(), AllocError> {
+    for text in texts {
+        list.push(text.as_str())?;
+    }
+    Ok(())
+}
+
+// What is left out: what the command line says, from the working folder on, and what the configuration says, from its folder on.
+fn exclusions_of<'a>(
+    alloc: Global,
+    given: &ArgMatches<'a>,
+    configured: &'a Configured,
+) -> Result<Vec<Exclusion<'a>>, AllocError> {
+    let mut list = Vec::new(alloc);
+    for text in &list_of(alloc, given, "exclude")? {
+        list.push(Exclusion {
+            folder: "",
+            text: *text,
+            is_path: false,
+            is_told: true,
+        })?;
+    }
+    for text in &configured.configuration.exclude {
+        list.push(Exclusion {
+            folder: configured.folder.as_str(),
+            text: text.as_str(),
+            is_path: false,
+            is_told: false,
+        })?;
+    }
+    Ok(list)
+}
+
+fn selection_of<'a>(
+    alloc: Global,
+    given: &ArgMatches<'a>,
+    configured: &'a Configured,
+) -> Result<Selection<'a>, AllocError> {
+    let mut paths = list_of(alloc, given, "paths")?;
+    if paths.is_empty() {
+        push_texts(&mut paths, configured.paths.as_slice())?;
+    }
+    let mut with = list_of(alloc, given, "with")?;
+    push_texts(&mut with, configured.with.as_slice())?;
+    let excluded = exclusions_of(alloc, given, configured)?;
     let input = given.get_str("stdin-path").unwrap_or("-");
     Ok(Selection {
         paths,
         with,
         excluded,
+        has_ignore: configured.configuration.has_gitignore && !given.get_flag("no-ignore"),
         input,
-        has_yaml: given.get_flag("yaml"),
+        has_yaml: configured.configuration.has_yaml || given.get_flag("yaml"),
     })
 }
 
@@ -82,7 +150,7 @@ pub fn list_of<'a>(
 pub fn say_unused(rt: &HostRuntime, paths: &[String]) {
     for path in paths {
         let _ = eprintln!(rt;
-            "patchsard: --exclude {}: leaves out nothing; it is the path of a file or a folder from here, and no pattern",
+            "patchsard: --exclude {}: leaves out nothing; it is the path of a file or a folder from here, or a pattern of such paths, as **/test/*.json",
             Plain(path.as_str())
         );
     }
