@@ -5,13 +5,15 @@ use crate::resources::Resources;
 use crate::rules::code_of;
 use crate::spots::{Spots, first_of, spots_of};
 use crate::suggestions::suggestion;
+use crate::told::{no_schema_text, told_help, told_suggestion, told_text};
+use crate::why::{fault_text, near_dialect, uri_text};
 use crate::workspace::Workspace;
 use ref_descriptions::Kind;
 use ref_draft::Draft;
 use ref_error::Error;
 use ref_files::Fault;
 use ref_findings::{Bearer, Level as Severity, Problem as Plain};
-use ref_messages::{Level, Message, Other, Suggester};
+use ref_messages::{Excerpt, Level, Message, Other, Suggester};
 use ref_parts::pointer_of;
 use ref_uri::Uri;
 use std::alloc::{AllocError, Global};
@@ -96,6 +98,7 @@ impl<'l, 'd> Describer<'l, 'd> {
             suggestion: None,
             help: None,
             first: None,
+            excerpt: self.excerpt(number, finding, (line, column)),
         };
         match self.complete(&mut message, number, finding) {
             Ok(()) => Ok(message),
@@ -104,6 +107,26 @@ impl<'l, 'd> Describer<'l, 'd> {
                 Err(error)
             }
         }
+    }
+
+    // The line of the file that a finding is about.
+    fn excerpt(
+        &self,
+        number: usize,
+        finding: &Finding<'d>,
+        (line, column): (usize, usize),
+    ) -> Option<Excerpt<'d>> {
+        let text = &self.workspace.documents().get(finding.source)?.text;
+        if text.fault().is_some() {
+            return Excerpt::at_column(text.text.as_str(), line, column);
+        }
+        let position = self.spots.own(number, finding)?;
+        Excerpt::at(
+            text.format,
+            text.text.as_str(),
+            position.offset(),
+            finding.text,
+        )
     }
 
     // Adds to a message what takes memory.
@@ -127,6 +150,10 @@ impl<'l, 'd> Describer<'l, 'd> {
             Problem::WrongKind { is, wanted, .. } => {
                 wrong_kind_text(self.alloc, finding.text.unwrap_or(""), *is, *wanted)
             }
+            Problem::NotASchema { is, draft } => {
+                no_schema_text(self.alloc, finding.text.unwrap_or(""), is, *draft)
+            }
+            Problem::Told { told, draft } => told_text(self.alloc, finding, *told, *draft),
         }
     }
 
@@ -143,8 +170,8 @@ impl<'l, 'd> Describer<'l, 'd> {
                 String::from_str(alloc, "A $recursiveRef is to be '#', in Draft 2019-09")
             }
             Plain::NamesNothing => nameless_text(alloc, finding.text),
-            Plain::InvalidUri(error) => error.to_string(alloc),
-            Plain::LeadsNowhere { error, .. } => error.to_string(alloc),
+            Plain::InvalidUri(error) => uri_text(alloc, error),
+            Plain::LeadsNowhere { error, .. } => fault_text(alloc, error),
             Plain::MissingDocument { uri } => {
                 ["Document '", uri.as_str(), "' is not among the given files"].join(alloc, "")
             }
@@ -185,9 +212,15 @@ impl<'l, 'd> Describer<'l, 'd> {
     }
 
     fn suggestion(&mut self, finding: &Finding<'_>) -> Result<Option<String>, AllocError> {
+        if let Problem::Told { told, .. } = &finding.problem {
+            return told_suggestion(self.alloc, *told);
+        }
         match finding.problem.plain() {
             Some(Plain::LeadsNowhere { uri, error }) => self.suggestion_in(uri, error),
             Some(Plain::MissingDocument { uri }) => self.suggested_document(finding, uri),
+            Some(Plain::UnknownDialect { .. }) => {
+                near_dialect(self.alloc, &mut self.suggester, finding.text.unwrap_or(""))
+            }
             _ => Ok(None),
         }
     }
@@ -240,6 +273,9 @@ impl<'l, 'd> Describer<'l, 'd> {
     }
 
     fn help_on(&mut self, finding: &Finding<'_>) -> Result<Option<String>, AllocError> {
+        if let Problem::Told { told, draft } = &finding.problem {
+            return told_help(self.alloc, finding, *told, *draft);
+        }
         match finding.problem.plain() {
             Some(Plain::MissingDocument { uri }) => {
                 other_uri(

@@ -396,8 +396,8 @@ fn finding_of<'d>(root: &'d Value, fault: Fault<'d>) -> Finding<'d> {
     }
 }
 
-// The key of a member of the value at a path, and its text.
-fn texts_at<'d>(
+/// The key of a member of the value at a path, and its text.
+pub(crate) fn texts_at<'d>(
     root: &'d Value,
     path: &[JsonPointerSegment<'_>],
     keyword: &str,
@@ -651,16 +651,25 @@ pub(crate) fn pointer_at(alloc: Global, place: &Place<'_>) -> Result<String, All
     pointer_of(alloc, path.as_slice())
 }
 
+/// The path of a place, with keys of its own.
+pub(crate) fn owned_path<'d>(
+    alloc: Global,
+    place: &Place<'_>,
+) -> Result<Vec<JsonPointerSegment<'d>>, AllocError> {
+    let mut path = Vec::new(alloc);
+    for segment in segments_of(alloc, &place.path)? {
+        path.push(owned(alloc, &segment)?)?;
+    }
+    Ok(path)
+}
+
 // The path of what has the text of a reference, with keys of its own.
 fn own_path<'d>(
     alloc: Global,
     place: &Place<'_>,
     under: Under,
 ) -> Result<Vec<JsonPointerSegment<'d>>, AllocError> {
-    let mut path = Vec::new(alloc);
-    for segment in segments_of(alloc, &place.path)? {
-        path.push(owned(alloc, &segment)?)?;
-    }
+    let mut path = owned_path(alloc, place)?;
     if under == Under::Mapping {
         path.push(JsonPointerSegment::from("discriminator"))?;
         path.push(JsonPointerSegment::from("mapping"))?;

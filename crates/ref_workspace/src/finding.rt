@@ -1,8 +1,10 @@
 //! What is wrong with documents, or is to be noted.
 use crate::placed::Unplaced;
 use ref_descriptions::Kind;
+use ref_draft::Draft;
 use ref_findings::{Finding as SchemaFinding, Level, Problem as SchemaProblem};
 use ref_parts::path::JsonPointerSegment;
+use ref_rules::Problem as Told;
 use ref_uri::Uri;
 use std::alloc::{AllocError, Global};
 use std::rc::Rc;
@@ -53,6 +55,20 @@ pub enum Problem<'d> {
         /// What it is to be.
         wanted: Kind,
     },
+    /// A reference of a schema leads to what is no schema.
+    NotASchema {
+        /// What it leads to, with its article, as `an array`.
+        is: &'static str,
+        /// The draft that it is read by.
+        draft: Draft,
+    },
+    /// Of a keyword of a schema, which is read by this draft.
+    Told {
+        /// What is told.
+        told: Told,
+        /// The draft.
+        draft: Draft,
+    },
 }
 
 impl<'d> Problem<'d> {
@@ -60,7 +76,8 @@ impl<'d> Problem<'d> {
     pub fn level(&self) -> Level {
         match self {
             Problem::Plain(problem) => problem.level(),
-            Problem::WrongKind { .. } => Level::Error,
+            Problem::WrongKind { .. } | Problem::NotASchema { .. } => Level::Error,
+            Problem::Told { told, .. } => level_of(*told),
         }
     }
 
@@ -68,8 +85,16 @@ impl<'d> Problem<'d> {
     pub fn plain(&self) -> Option<&SchemaProblem<'d>> {
         match self {
             Problem::Plain(problem) => Some(problem),
-            Problem::WrongKind { .. } => None,
+            _ => None,
         }
+    }
+}
+
+// How much it counts what is told of a keyword.
+fn level_of(told: Told) -> Level {
+    match told {
+        Told::IgnoredBesideRef | Told::MisspelledDialect(_) => Level::Warning,
+        Told::OfAnotherDraft(_) | Told::DialectWithin | Told::UnheardBesideRef => Level::Note,
     }
 }
 

@@ -67,7 +67,7 @@ pub fn followed<'w>(
     }
 }
 
-fn looked_up<'w>(
+pub(crate) fn looked_up<'w>(
     alloc: Global,
     world: &'w World<'_>,
     base: Uri,

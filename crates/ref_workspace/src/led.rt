@@ -4,8 +4,9 @@ use crate::described::{
     Described, Description, Fault, Numbered, add_fault, each_once, faults_in, kept,
     numbered_sources, pointer_at,
 };
+use crate::ends::ends_of;
 use crate::finding::Finding;
-use crate::placed::members_in;
+use crate::leads::{NoSchema, add_no_schema, no_schemas_in};
 use crate::workspace::Workspace;
 use ref_descriptions::references;
 use ref_reach::{Documents, Place, Reached, Schemas, documents_of, reach_schemas, schemas_of};
@@ -23,16 +24,24 @@ pub(crate) fn add_led<'d>(
     described: &mut Described,
     list: &mut Vec<Finding<'d>>,
 ) -> Result<usize, AllocError> {
-    let is_any = described.is_any() || members_of(alloc, workspace, described)? != references;
+    let ends = ends_of(alloc, workspace, &*described)?;
+    let is_any = described.is_any() || ends.count != references;
     for number in 0..workspace.asked() {
         described.look_at(number, is_any);
     }
-    if !is_any {
+    if !is_any && !ends.may_be_no_schema(alloc, workspace)? {
         return Ok(0);
     }
-    let Led { faults, references } = led_of(alloc, workspace, described)?;
+    let Led {
+        faults,
+        references,
+        no_schemas,
+    } = led_of(alloc, workspace, described, is_any)?;
     for fault in faults {
         add_fault(workspace, fault, list)?;
+    }
+    for found in no_schemas {
+        add_no_schema(workspace, found, list)?;
     }
     Ok(references)
 }
@@ -41,7 +50,7 @@ pub(crate) fn add_led<'d>(
 /// may come more than once. Fails only if out of memory.
 pub(crate) fn missing_led(alloc: Global, workspace: &Workspace) -> Result<Vec<Uri>, AllocError> {
     let mut described = Described::of(alloc, workspace)?;
-    let Led { faults, .. } = led_of(alloc, workspace, &mut described)?;
+    let Led { faults, .. } = led_of(alloc, workspace, &mut described, true)?;
     drop(described);
     missing_in(alloc, workspace, faults.as_slice())
 }
@@ -58,37 +67,23 @@ fn missing_in(
     Ok(uris)
 }
 
-// What is wrong with the references of what schemas lead to, and how many of these are in documents that are asked about.
+// What is wrong with the references of what schemas lead to, and how many of these are in documents that are asked about; and which references of
+// schemas and of what they lead to lead to what is no schema.
 #[derive(Drop)]
 struct Led<'d> {
     faults: Vec<Fault<'d>>,
     references: usize,
-}
-
-// How many members of those documents that are asked about and are no descriptions may be references.
-fn members_of(
-    alloc: Global,
-    workspace: &Workspace,
-    described: &Described,
-) -> Result<usize, AllocError> {
-    let mut count: usize = 0;
-    for (number, document) in workspace.asked_about().iter().enumerate() {
-        if !described.is_described_at(number) {
-            if let Some(value) = document.value() {
-                count = count.saturating_add(members_in(alloc, value)?);
-            }
-        }
-    }
-    Ok(count)
+    no_schemas: Vec<NoSchema<'d>>,
 }
 
 fn led_of<'d>(
     alloc: Global,
     workspace: &Workspace,
     described: &mut Described,
+    is_any: bool,
 ) -> Result<Led<'d>, AllocError> {
     let numbered = numbered_sources(alloc, workspace)?;
-    led_by(alloc, workspace, &numbered, described)
+    led_by(alloc, workspace, &numbered, described, is_any)
 }
 
 fn led_by<'d>(
@@ -96,11 +91,31 @@ fn led_by<'d>(
     workspace: &Workspace,
     numbered: &Numbered<'_>,
     described: &mut Described,
+    is_any: bool,
 ) -> Result<Led<'d>, AllocError> {
     let documents = documents_of(alloc, workspace.draft(), numbered.sources.as_slice())?;
     let documents = kept(alloc, documents)?;
     let numbers = numbered.numbers.as_slice();
-    led_among(alloc, workspace, numbers, documents, described)
+    let schemas = schemas_among(alloc, workspace, numbers, documents, &*described)?;
+    let mut no_schemas = Vec::new(alloc);
+    let asked = workspace.asked();
+    let own = schemas.places();
+    no_schemas_in(alloc, asked, numbers, documents, own, &mut no_schemas)?;
+    if is_any {
+        return led_among(
+            alloc,
+            asked,
+            numbers,
+            documents,
+            (&schemas, described),
+            no_schemas,
+        );
+    }
+    Ok(Led {
+        faults: Vec::new(alloc),
+        references: 0,
+        no_schemas,
+    })
 }
 
 // The places that schemas have by themselves.
@@ -125,24 +140,29 @@ fn push(list: &mut Vec<usize>, number: usize) -> Result<(), AllocError> {
     Ok(())
 }
 
+// The same, and what is reached from the schemas.
 fn led_among<'d, 'r>(
     alloc: Global,
-    workspace: &Workspace,
+    asked: usize,
     numbers: &[usize],
     documents: &'r Documents<'r>,
-    described: &mut Described,
+    (schemas, described): (&Schemas<'r>, &mut Described),
+    no_schemas: Vec<NoSchema<'d>>,
 ) -> Result<Led<'d>, AllocError> {
-    let schemas = schemas_among(alloc, workspace, numbers, documents, &*described)?;
-    let reached = reach_schemas(alloc, documents, &schemas)?;
-    let asked = workspace.asked();
-    described
-        .placed
-        .add_all(alloc, asked, numbers, schemas.places())?;
+    let mut no_schemas = no_schemas;
+    let reached = reach_schemas(alloc, documents, schemas)?;
+    let own = schemas.places();
+    described.placed.add_all(alloc, asked, numbers, own)?;
     let places = reached.places.as_slice();
     let references = references_in(alloc, asked, numbers, places, described)?;
-    let faults = faults_in(alloc, numbers, schemas.places(), reached)?;
+    no_schemas_in(alloc, asked, numbers, documents, places, &mut no_schemas)?;
+    let faults = faults_in(alloc, numbers, own, reached)?;
     let faults = each_once(alloc, faults)?;
-    Ok(Led { faults, references })
+    Ok(Led {
+        faults,
+        references,
+        no_schemas,
+    })
 }
 
 // Notes which texts are in these places, and returns how many references those have that are in documents that are asked about, of each once.

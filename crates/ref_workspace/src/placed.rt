@@ -164,19 +164,19 @@ impl Placed {
     }
 }
 
-// A value of a document, and where it is.
+/// A value of a document, and where it is.
 #[derive(Drop)]
-struct Spot<'d> {
-    path: Vec<JsonPointerSegment<'d>>,
-    value: &'d Value,
+pub(crate) struct Spot<'d> {
+    pub(crate) path: Vec<JsonPointerSegment<'d>>,
+    pub(crate) value: &'d Value,
 }
 
 fn has_text(value: &Value) -> bool {
     value.get("$ref").is_some_and(Value::is_string)
 }
 
-// Adds the values in a value, with their paths.
-fn push_spots<'d>(
+/// Adds the values in a value, with their paths.
+pub(crate) fn push_spots<'d>(
     alloc: Global,
     waiting: &mut Vec<Spot<'d>>,
     spot: &Spot<'d>,
@@ -305,33 +305,16 @@ fn texts_in(alloc: Global, value: &Value) -> Result<usize, AllocError> {
     Ok(count)
 }
 
-/// How many members of a value, at any depth, have the name of a keyword that holds a reference in some draft.
-pub(crate) fn members_in(alloc: Global, value: &Value) -> Result<usize, AllocError> {
-    let mut count: usize = 0;
-    let mut waiting = Vec::new(alloc);
-    waiting.push(value)?;
-    for _ in 0..u64::MAX {
-        let Some(value) = waiting.pop() else {
-            break;
-        };
-        if let Some(members) = value.as_object() {
-            for (key, _) in members.iter() {
-                if is_reference(key.as_str()) {
-                    count = count.saturating_add(1);
-                }
-            }
-        }
-        push_below(&mut waiting, value)?;
-    }
-    Ok(count)
-}
-
-fn is_reference(key: &str) -> bool {
+/// Whether a member with this name holds a reference in some draft.
+pub(crate) fn is_reference(key: &str) -> bool {
     key.starts_with('$') && matches!(key, "$ref" | "$dynamicRef" | "$recursiveRef")
 }
 
-// Adds those values in a value that may have values in them.
-fn push_below<'v>(waiting: &mut Vec<&'v Value>, value: &'v Value) -> Result<(), AllocError> {
+/// Adds those values in a value that may have values in them.
+pub(crate) fn push_below<'v>(
+    waiting: &mut Vec<&'v Value>,
+    value: &'v Value,
+) -> Result<(), AllocError> {
     if let Some(members) = value.as_object() {
         for (_, member) in members.iter() {
             push_large(waiting, member)?;

@@ -4,6 +4,7 @@ use ref_error::Error;
 use ref_files::Format;
 use ref_findings::Problem as Plain;
 use ref_messages::Rule;
+use ref_rules::Problem as Told;
 
 /// The kinds of findings, each with what it says.
 pub const RULES: &[Rule] = &[
@@ -37,27 +38,27 @@ pub const RULES: &[Rule] = &[
     },
     Rule {
         code: "missing-document",
-        text: "A $ref leads into a document that is not among the given files",
+        text: "A reference leads into a document that is not among the given files",
     },
     Rule {
         code: "pointer-to-nowhere",
-        text: "The pointer of a $ref leads to no value",
+        text: "The pointer of a reference leads to no value",
     },
     Rule {
         code: "no-such-anchor",
-        text: "A $ref names an anchor that is not there",
+        text: "A reference names an anchor that is not there",
     },
     Rule {
         code: "invalid-anchor",
-        text: "The fragment of a $ref is neither a pointer nor the name of an anchor",
+        text: "The fragment of a reference is neither a pointer nor the name of an anchor",
     },
     Rule {
         code: "invalid-array-index",
-        text: "The pointer of a $ref goes into an array by what is no index",
+        text: "The pointer of a reference goes into an array by what is no index",
     },
     Rule {
         code: "invalid-percent-encoding",
-        text: "The fragment of a $ref is not UTF-8 when it is decoded",
+        text: "The fragment of a reference is not UTF-8 when it is decoded",
     },
     Rule {
         code: "duplicate-identifier",
@@ -80,8 +81,28 @@ pub const RULES: &[Rule] = &[
         text: "A reference of an API description leads to an object of another kind than the one that is needed",
     },
     Rule {
+        code: "not-a-schema",
+        text: "A reference of a schema leads to what is no schema",
+    },
+    Rule {
+        code: "ignored-beside-ref",
+        text: "A keyword that decides counts for nothing beside a $ref, in Drafts 4, 6 and 7",
+    },
+    Rule {
+        code: "annotation-beside-ref",
+        text: "An annotation or an identifier counts for nothing beside a $ref, in Drafts 4, 6 and 7",
+    },
+    Rule {
+        code: "keyword-of-another-draft",
+        text: "A keyword is one that the draft of its schema does not have, or is a $schema where none counts",
+    },
+    Rule {
+        code: "spelling-of-dialect",
+        text: "A $schema means a draft, and is not the URI of its meta-schema",
+    },
+    Rule {
         code: "unchecked-reference",
-        text: "A $ref leads into a meta-schema that is not among the given files",
+        text: "A reference leads into a meta-schema that is not among the given files",
     },
 ];
 
@@ -91,6 +112,17 @@ pub fn code_of(problem: &Problem<'_>, format: Format) -> &'static str {
         Problem::Plain(Plain::NotJson) if format == Format::Yaml => "not-yaml",
         Problem::Plain(problem) => code_of_plain(problem),
         Problem::WrongKind { .. } => "wrong-kind",
+        Problem::NotASchema { .. } => "not-a-schema",
+        Problem::Told { told, .. } => code_of_told(*told),
+    }
+}
+
+fn code_of_told(told: Told) -> &'static str {
+    match told {
+        Told::OfAnotherDraft(_) | Told::DialectWithin => "keyword-of-another-draft",
+        Told::IgnoredBesideRef => "ignored-beside-ref",
+        Told::UnheardBesideRef => "annotation-beside-ref",
+        Told::MisspelledDialect(_) => "spelling-of-dialect",
     }
 }
 

@@ -11,6 +11,7 @@ ghost use Rattle.ref_workspace.specs.Workspace.{as_source};
 use crate::described::{Described, add_described};
 use crate::finding::{Finding, Report, plain, push, push_all, push_plain};
 use crate::led::add_led;
+use crate::ruled::{add_told, without_misspelled};
 use crate::workspace::{Document, Workspace};
 use ref_draft::Draft;
 use ref_findings::{Held, Problem, Report as SchemaReport, Source, as_sources, mended, report};
@@ -123,7 +124,8 @@ impl Workspace {
         add_held(&mut others, self.held_documents())?;
         let report = report(alloc, self.draft(), own.as_slice(), others.as_slice())?;
         let references = report.references;
-        push_plain(list, report.findings, numbers.as_slice())?;
+        let findings = without_misspelled(alloc, report.findings)?;
+        push_plain(list, findings, numbers.as_slice())?;
         Ok(references)
     }
 
@@ -138,6 +140,7 @@ impl Workspace {
         let led = add_led(alloc, self, references, &mut described, &mut more)?;
         let references = references.saturating_add(led);
         push_all(&mut findings, more)?;
+        add_told(alloc, self, &described, &mut findings)?;
         self.add_faults(alloc, &mut findings)?;
         let unplaced = described.placed.unplaced(alloc, self)?;
         Ok(Report {

@@ -1,0 +1,137 @@
+//! Whether references may lead to what is no schema, by the names of members alone.
+use crate::described::Described;
+use crate::placed::{is_reference, push_below};
+use crate::workspace::Workspace;
+use serde_json::Value;
+use std::alloc::{AllocError, Global};
+
+/// The members of documents that may be references, and the last names of their pointers.
+#[derive(Drop)]
+pub(crate) struct Ends<'d> {
+    /// How many there are.
+    pub(crate) count: usize,
+    // The names, without those that are told apart by nothing but a walk.
+    names: Vec<&'d str>,
+    // Whether there is a name with a first and a last byte.
+    table: Vec<bool>,
+    // Whether one leads to an item of an array, or has a name with an escape.
+    is_open: bool,
+}
+
+/// Those of documents that are asked about and are no descriptions. A step for each value.
+pub(crate) fn ends_of<'d>(
+    alloc: Global,
+    workspace: &'d Workspace,
+    described: &Described,
+) -> Result<Ends<'d>, AllocError> {
+    let mut ends = Ends {
+        count: 0,
+        names: Vec::new(alloc),
+        table: vec![in alloc; false; 65_536]?,
+        is_open: false,
+    };
+    for (number, document) in workspace.asked_about().iter().enumerate() {
+        if !described.is_described_at(number) {
+            if let Some(value) = document.value() {
+                ends.add_all(alloc, value)?;
+            }
+        }
+    }
+    ends.names.sort_unstable();
+    Ok(ends)
+}
+
+impl<'d> Ends<'d> {
+    // Adds those of a value and of what is in it.
+    fn add_all(&mut self, alloc: Global, value: &'d Value) -> Result<(), AllocError> {
+        let mut waiting = Vec::new(alloc);
+        waiting.push(value)?;
+        for _ in 0..u64::MAX {
+            let Some(value) = waiting.pop() else {
+                break;
+            };
+            if let Some(members) = value.as_object() {
+                for (key, member) in members.iter() {
+                    if is_reference(key.as_str()) {
+                        self.add(member)?;
+                    }
+                }
+            }
+            push_below(&mut waiting, value)?;
+        }
+        Ok(())
+    }
+
+    fn add(&mut self, member: &'d Value) -> Result<(), AllocError> {
+        self.count = self.count.saturating_add(1);
+        let Some((_, fragment)) = member.as_str().unwrap_or("").split_once('#') else {
+            return Ok(());
+        };
+        let Some((_, name)) = fragment.rsplit_once('/') else {
+            return Ok(());
+        };
+        if name.contains(['%', '~']) || name.bytes().all(|byte| byte.is_ascii_digit()) {
+            self.is_open = true;
+        } else {
+            if let Some(is_there) = self.table.get_mut(key_of(name)) {
+                *is_there = true;
+            }
+            self.names.push(name)?;
+        }
+        Ok(())
+    }
+
+    /// Whether one may lead to what is no schema: to an item of an array, to a member with such a name that is no object, or to a document that is none. A step
+    /// for each value of all documents at most.
+    pub(crate) fn may_be_no_schema(
+        &self,
+        alloc: Global,
+        workspace: &Workspace,
+    ) -> Result<bool, AllocError> {
+        if self.is_open {
+            return Ok(true);
+        }
+        for number in 0..workspace.len() {
+            if let Some(value) = workspace.value(number) {
+                if !value.is_object() || self.has_other(alloc, value)? {
+                    return Ok(true);
+                }
+            }
+        }
+        Ok(false)
+    }
+
+    // Whether a value has a member, at any depth, with such a name that is no object.
+    fn has_other(&self, alloc: Global, value: &Value) -> Result<bool, AllocError> {
+        let mut waiting = Vec::new(alloc);
+        waiting.push(value)?;
+        for _ in 0..u64::MAX {
+            let Some(value) = waiting.pop() else {
+                break;
+            };
+            if let Some(members) = value.as_object() {
+                for (key, member) in members.iter() {
+                    if !member.is_object() && self.has(key.as_str()) {
+                        return Ok(true);
+                    }
+                }
+            }
+            push_below(&mut waiting, value)?;
+        }
+        Ok(false)
+    }
+
+    fn has(&self, name: &str) -> bool {
+        let may = self.table.get(key_of(name)).copied().unwrap_or(false);
+        may && self.names.binary_search(&name).is_ok()
+    }
+}
+
+// The first and the last byte of a name as one number.
+fn key_of(name: &str) -> usize {
+    match name.as_bytes() {
+        [] => 0,
+        [first, .., last] => usize::from(*first) * 256 + usize::from(*last),
+        [only] => usize::from(*only) * 257,
+    }
+}

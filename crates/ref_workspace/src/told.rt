@@ -1,0 +1,95 @@
+//! What is said of the keywords of schemas.
+use crate::finding::Finding;
+use ref_draft::Draft;
+use ref_rules::{Problem, meta_schema};
+use std::alloc::{AllocError, Global};
+
+/// What is said of a keyword.
+pub(crate) fn told_text(
+    alloc: Global,
+    finding: &Finding<'_>,
+    told: Problem,
+    draft: Draft,
+) -> Result<String, AllocError> {
+    let keyword = finding.keyword.unwrap_or("");
+    match told {
+        Problem::OfAnotherDraft(draft) => of_another_text(alloc, keyword, draft),
+        Problem::DialectWithin => String::from_str(
+            alloc,
+            "A $schema counts at the root of a file, or beside an identifier",
+        ),
+        Problem::IgnoredBesideRef | Problem::UnheardBesideRef => {
+            let draft = draft.name();
+            format!(in alloc; "'{keyword}' counts for nothing beside a $ref in Draft {draft}")
+        }
+        Problem::MisspelledDialect(draft) => {
+            misspelled_text(alloc, finding.text.unwrap_or(""), draft)
+        }
+    }
+}
+
+// That a draft doesn't have a keyword.
+fn of_another_text(alloc: Global, keyword: &str, draft: Draft) -> Result<String, AllocError> {
+    format!(in alloc; "Draft {} has no '{keyword}'", draft.name())
+}
+
+// That a text is not the URI of a draft's meta-schema.
+fn misspelled_text(alloc: Global, text: &str, draft: Draft) -> Result<String, AllocError> {
+    format!(in alloc;
+        "'{text}' is not the URI of the meta-schema of Draft {}",
+        draft.name()
+    )
+}
+
+/// What is meant by a keyword, where that is known: the URI of the meta-schema.
+pub(crate) fn told_suggestion(alloc: Global, told: Problem) -> Result<Option<String>, AllocError> {
+    match told {
+        Problem::MisspelledDialect(draft) => Ok(Some(String::from_str(alloc, meta_schema(draft))?)),
+        _ => Ok(None),
+    }
+}
+
+/// What to do about what is said of a keyword.
+pub(crate) fn told_help(
+    alloc: Global,
+    finding: &Finding<'_>,
+    told: Problem,
+    draft: Draft,
+) -> Result<Option<String>, AllocError> {
+    match told {
+        Problem::OfAnotherDraft(_) => match other_name(finding.keyword.unwrap_or(""), draft) {
+            Some(name) => Ok(Some(["write ", name].join(alloc, "")?)),
+            None => Ok(None),
+        },
+        Problem::IgnoredBesideRef => {
+            Ok(Some(String::from_str(alloc, "put the $ref into an allOf")?))
+        }
+        _ => Ok(None),
+    }
+}
+
+// What a draft has in place of a keyword.
+fn other_name(keyword: &str, draft: Draft) -> Option<&'static str> {
+    match (keyword, draft) {
+        ("id", _) => Some("$id"),
+        ("$id", Draft::Draft4) => Some("id"),
+        ("$recursiveRef", Draft::Draft202012) => Some("$dynamicRef"),
+        ("$recursiveAnchor", Draft::Draft202012) => Some("$dynamicAnchor"),
+        ("$dynamicRef", Draft::Draft201909) => Some("$recursiveRef"),
+        ("$dynamicAnchor", Draft::Draft201909) => Some("$recursiveAnchor"),
+        _ => None,
+    }
+}
+
+/// That a reference leads to what is no schema.
+pub(crate) fn no_schema_text(
+    alloc: Global,
+    reference: &str,
+    is: &str,
+    draft: Draft,
+) -> Result<String, AllocError> {
+    format!(in alloc;
+        "'{reference}' is {is}, which is no schema of Draft {}",
+        draft.name()
+    )
+}
