@@ -4,8 +4,8 @@
 
 mod serve;
 
-use clap::ArgMatches;
-use ref_command_line::{Console, Stop, command, console, say};
+use clap::{ArgMatches, Error};
+use ref_command_line::{Configured, Console, Stop, command, console, find_configuration, say};
 use ref_commands::{bundle, graph, lint, places, resolve};
 use ref_messages::PlainBytes;
 use simdutf8::compat::from_utf8;
@@ -82,61 +82,111 @@ fn asks_for_help_of_help(words: &[String]) -> bool {
 
 fn run(rt: &HostRuntime) -> Result<u8, Stop> {
     let words = words_of(rt)?;
-    let command = command::patchsard(rt.alloc())?;
-    match command.try_get_matches_from(words.as_slice()) {
-        Ok(matches) => {
-            let status = asked(rt, &matches);
-            drop(matches);
-            status
-        }
-        Err(error) => {
-            let printed = error.print(rt);
-            let status = if error.exit_code() == 0 { 0 } else { 2 };
-            drop(error);
-            match printed {
-                Ok(()) => Ok(status),
-                Err(_) => Err(Stop::Write),
-            }
-        }
+    match configuration_of(rt, words.as_slice())? {
+        Ok(configured) => answer_words(rt, words.as_slice(), &configured),
+        Err(status) => Ok(status),
     }
 }
 
-// Goes to the folder that is asked for, returns the subcommand, and prints what is not printed yet.
-fn asked(rt: &HostRuntime, matches: &ArgMatches<'_>) -> Result<u8, Stop> {
+// Goes to the folder that is asked for, and finds the configuration that counts for a subcommand that reads files; or the status where the words
+// ask for help or are wrong, which is printed.
+fn configuration_of(
+    rt: &HostRuntime,
+    words: &[String],
+) -> Result<Result<Option<Configured>, u8>, Stop> {
+    let command = command::patchsard(rt.alloc())?;
+    match command.try_get_matches_from(words) {
+        Ok(matches) => {
+            let configured = configuration_for(rt, &matches);
+            drop(matches);
+            Ok(Ok(configured?))
+        }
+        Err(error) => Ok(Err(status_of(rt, error)?)),
+    }
+}
+
+// Prints help, or what is wrong with the words, and returns the status.
+fn status_of(rt: &HostRuntime, error: Error) -> Result<u8, Stop> {
+    let printed = error.print(rt);
+    let status = if error.exit_code() == 0 { 0 } else { 2 };
+    drop(error);
+    match printed {
+        Ok(()) => Ok(status),
+        Err(_) => Err(Stop::Write),
+    }
+}
+
+fn configuration_for(
+    rt: &HostRuntime,
+    matches: &ArgMatches<'_>,
+) -> Result<Option<Configured>, Stop> {
     if let Some(folder) = matches.get_str("directory") {
         console::go_to(rt, folder)?;
     }
-    let mut console = Console::new(rt);
-    let status = answered(rt, &mut console, matches)?;
-    console.finish()?;
-    Ok(status)
+    match matches.subcommand() {
+        None | Some(("serve", _)) => Ok(None),
+        Some((_, given)) => Ok(Some(find_configuration(rt, given)?)),
+    }
 }
 
-fn answered(
+// What is answered to the words of a command line, with the configuration that counts. They are read a second time, since what they say and what it
+// says are lent for one time.
+fn answer_words<'a>(
     rt: &HostRuntime,
-    console: &mut Console<'_>,
-    matches: &ArgMatches<'_>,
+    words: &'a [String],
+    configured: &'a Option<Configured>,
 ) -> Result<u8, Stop> {
+    let command = command::patchsard(rt.alloc())?;
+    match command.try_get_matches_from(words) {
+        Ok(matches) => {
+            let status = match configured {
+                Some(configured) => asked(rt, &matches, configured),
+                None => without_configuration(rt, &matches),
+            };
+            drop(matches);
+            status
+        }
+        Err(error) => status_of(rt, error),
+    }
+}
+
+// What is answered where no files are read.
+fn without_configuration(rt: &HostRuntime, matches: &ArgMatches<'_>) -> Result<u8, Stop> {
     match matches.subcommand() {
-        Some((name, given)) => answer(rt, console, name, given),
+        Some(_) => serve::serve_calls(rt),
         None => without_subcommand(rt),
     }
 }
 
-// What a subcommand answers.
-fn answer(
+// Returns the status of a subcommand that reads files, and prints what is not printed yet.
+fn asked<'a>(
+    rt: &HostRuntime,
+    matches: &ArgMatches<'a>,
+    configured: &'a Configured,
+) -> Result<u8, Stop> {
+    let mut console = Console::new(rt);
+    let status = match matches.subcommand() {
+        Some((name, given)) => answer(rt, &mut console, name, given, configured)?,
+        None => 2,
+    };
+    console.finish()?;
+    Ok(status)
+}
+
+// What such a subcommand answers.
+fn answer<'a>(
     rt: &HostRuntime,
     console: &mut Console<'_>,
     name: &str,
-    given: &ArgMatches<'_>,
+    given: &ArgMatches<'a>,
+    configured: &'a Configured,
 ) -> Result<u8, Stop> {
     match name {
-        "lint" => lint::lint(rt, console, given),
-        "resolve" => resolve::resolve(rt, console, given),
-        "bundle" => bundle::bundle(rt, console, given),
-        "places" => places::places(rt, console, given),
-        "serve" => serve::serve_calls(rt),
-        _ => graph::graph(rt, console, given),
+        "lint" => lint::lint(rt, console, given, configured),
+        "resolve" => resolve::resolve(rt, console, given, configured),
+        "bundle" => bundle::bundle(rt, console, given, configured),
+        "places" => places::places(rt, console, given, configured),
+        _ => graph::graph(rt, console, given, configured),
     }
 }
 

@@ -3,13 +3,13 @@ use crate::message::message_at;
 use crate::opened::{Opened, open_file, reported};
 use clap::ArgMatches;
 use ref_bundle::{Bundle, Embedded};
-use ref_command_line::{Console, Stop, say, say_failures, say_of};
+use ref_command_line::{Configured, Console, Stop, say, say_failures, say_of};
 use ref_descriptions::version_of;
 use ref_draft::Draft;
 use ref_files::{Format, WriteError, parsed, write_file};
 use ref_findings::Problem;
 use ref_index::Place;
-use ref_messages::{Level, Plain, push_text};
+use ref_messages::{Color, Level, Plain, push_text};
 use ref_parts::pointer_of;
 use ref_positions::splice::{Added, Part, with_added, with_parts};
 use ref_uri::UriRef;
@@ -25,12 +25,13 @@ const BY_NAME: &str = "name its file or folder by --with, or a folder that has i
 
 /// Writes one document in place of several. The status is 0 where it is written, 1 where there is no bundle, 2 where a
 /// path can't be read or written, and 3 where the text that was made isn't that of the bundle.
-pub fn bundle(
+pub fn bundle<'a>(
     rt: &HostRuntime,
     console: &mut Console<'_>,
-    given: &ArgMatches<'_>,
+    given: &ArgMatches<'a>,
+    configured: &'a Configured,
 ) -> Result<u8, Stop> {
-    let opened = open_file(rt, given, given.get_str("output"))?;
+    let opened = open_file(rt, given, configured, given.get_str("output"))?;
     let status = if opened.has_failed {
         Ok(2)
     } else {
@@ -527,7 +528,7 @@ impl<'s, 'a, 'd, 'm, 'w, 'o> Sources<'s, 'a, 'd, 'm, 'w, 'o> {
         match message_at(self.rt, self.opened, describer, place)? {
             Some(mut message) => {
                 message.level = level;
-                let pushed = push_text(out, &message);
+                let pushed = push_text(out, &message, Color::None);
                 drop(message);
                 pushed
             }

@@ -2,17 +2,18 @@
 use crate::left_out::say_broken;
 use crate::opened::{open_given, reported};
 use clap::ArgMatches;
-use ref_command_line::{Console, Stop};
+use ref_command_line::{Configured, Console, Stop};
 use ref_messages::{push_dot, push_mermaid};
 use ref_workspace::{Workspace, graph_of};
 
 /// Draws which file refers to which. The status is 0, 1 where a file is neither JSON nor YAML, or 2 where a path couldn't be read.
-pub fn graph(
+pub fn graph<'a>(
     rt: &HostRuntime,
     console: &mut Console<'_>,
-    given: &ArgMatches<'_>,
+    given: &ArgMatches<'a>,
+    configured: &'a Configured,
 ) -> Result<u8, Stop> {
-    let opened = open_given(rt, given)?;
+    let opened = open_given(rt, given, configured)?;
     let drawn = draw(rt, console, given, &opened.workspace);
     let has_failed = opened.has_failed;
     let is_any_broken = say_broken(rt, opened.workspace.documents());

@@ -6,14 +6,17 @@
 mod beside;
 pub mod bundle;
 pub mod graph;
+mod known;
 mod led;
 mod left_out;
+mod levels;
 pub mod lint;
 mod listed;
 mod listing;
 mod message;
 mod opened;
 pub mod places;
+mod printed;
 mod refusals;
 pub mod resolve;
 mod shown;

@@ -1,13 +1,16 @@
 //! `patchsard lint`.
+use crate::known::Known;
 use crate::left_out::{say_broken, say_leniencies, say_unplaced};
 use crate::listed::{Form, Listing, Statistics};
 use crate::message::message_at;
 use crate::opened::{Opened, open_given};
+use crate::printed::print_configured;
 use clap::ArgMatches;
-use ref_command_line::{Console, Stop, say};
+use ref_command_line::{Configured, Console, Stop, say};
 use ref_findings::Problem;
 use ref_messages::{
-    Level, Message, push_annotation, push_gitlab, push_junit, push_line, push_sarif, push_text,
+    Level, Message, push_annotation, push_full, push_gitlab, push_junit, push_line, push_sarif,
+    push_text,
 };
 use ref_workspace::{Describer, Document, Finding, RULES};
 use std::alloc::{AllocError, Global};
@@ -22,6 +25,9 @@ struct Count {
     references: usize,
     // How many texts are under a `$ref` that is in no place.
     unplaced: usize,
+    // How many findings a comment silences, and how many are known.
+    silenced: usize,
+    known: usize,
     errors: usize,
     warnings: usize,
     notes: usize,
@@ -31,14 +37,18 @@ struct Count {
 
 /// Lists what is wrong with the references of files. The status is 0 where nothing is, 1 where something is or nothing was looked
 /// at, and 2 where a path couldn't be read.
-pub fn lint(
+pub fn lint<'a>(
     rt: &HostRuntime,
     console: &mut Console<'_>,
-    given: &ArgMatches<'_>,
+    given: &ArgMatches<'a>,
+    configured: &'a Configured,
 ) -> Result<u8, Stop> {
     let begin = Instant::now(rt);
-    let listing = Listing::of(rt, given)?;
-    let opened = open_given(rt, given)?;
+    let mut listing = Listing::of(rt, given, configured)?;
+    if given.get_flag("print-config") {
+        return print_configured(rt, console, given, configured, &listing);
+    }
+    let opened = open_given(rt, given, configured)?;
     let workspace = &opened.workspace;
     let others = workspace
         .documents()
@@ -47,8 +57,8 @@ pub fn lint(
     if listing.is_verbose {
         say_leniencies(rt, workspace.documents())?;
     }
-    let listed = list_all(rt, console, &listing, &opened);
-    let (has_failed, passed) = (opened.has_failed, opened.passed);
+    let listed = list_all(rt, console, given, &mut listing, &opened);
+    let (has_failed, passed) = (opened.has_failed, (opened.passed, opened.ignored));
     let files = opened.keep();
     let Some(count) = count_of(listed)? else {
         console.out.clear();
@@ -84,11 +94,16 @@ fn status_of(is_fine: bool, has_failed: bool) -> u8 {
 }
 
 // Says that no reference was looked at, which is no all-clear.
-fn say_nothing(rt: &HostRuntime, files: usize, passed: usize) {
+fn say_nothing(rt: &HostRuntime, files: usize, (passed, ignored): (usize, usize)) {
     if files == 0 && passed > 0 {
         say(
             rt,
             "each file was passed over: of YAML below a folder those are read that have $schema, $id, id, openapi or swagger at their roots; name a file to read it, or read all by --yaml",
+        );
+    } else if files == 0 && ignored > 0 {
+        say(
+            rt,
+            "no file was found but what .gitignore leaves out: name a file to read it, or read all by --no-ignore",
         );
     } else if files == 0 {
         say(
@@ -141,7 +156,8 @@ fn print_time(rt: &HostRuntime, begin: io::Result<Instant>) {
 fn list_all(
     rt: &HostRuntime,
     console: &mut Console<'_>,
-    listing: &Listing<'_>,
+    given: &ArgMatches<'_>,
+    listing: &mut Listing<'_>,
     opened: &Opened<'_>,
 ) -> Result<Count, Stop> {
     let alloc = rt.alloc();
@@ -157,31 +173,31 @@ fn list_all(
         findings,
         listing.has_unchecked(),
     )?;
-    let mut count = Count {
+    let count = Count {
         descriptions: report.descriptions,
         places: report.places,
         references: report.references,
         unplaced: report.unplaced.len(),
+        silenced: 0,
+        known: 0,
         errors: 0,
         warnings: 0,
         notes: 0,
         unread: unread_in(findings).saturating_add(other_roots_in(opened.workspace.asked_about())),
     };
-    let mut statistics = Statistics::new(alloc);
-    let printed = print(
-        rt,
-        opened,
-        console,
-        listing,
-        &mut describer,
-        (&mut count, &mut statistics),
-    );
+    let mut tally = Tally {
+        count,
+        statistics: Statistics::new(alloc),
+        known: Known::of(rt, given, opened)?,
+    };
+    let printed = print(rt, opened, console, listing, &mut describer, &mut tally);
     drop(describer);
     printed?;
     if listing.has_statistics {
-        statistics.say(rt);
+        tally.statistics.say(rt);
     }
-    Ok(count)
+    tally.known.finish(rt, given, opened)?;
+    Ok(tally.finished())
 }
 
 // Prints the messages on findings, and counts them.
@@ -189,15 +205,15 @@ fn print(
     rt: &HostRuntime,
     opened: &Opened<'_>,
     console: &mut Console<'_>,
-    listing: &Listing<'_>,
+    listing: &mut Listing<'_>,
     describer: &mut Describer<'_, '_>,
-    counts: (&mut Count, &mut Statistics),
+    tally: &mut Tally<'_>,
 ) -> Result<(), Stop> {
     match listing.form {
         Form::Sarif | Form::GitLab | Form::JUnit => {
-            print_whole(rt, opened, console, listing, describer, counts)?;
+            print_whole(rt, opened, console, listing, describer, tally)?;
         }
-        _ => print_each(rt, opened, console, listing, describer, counts)?,
+        _ => print_each(rt, opened, console, listing, describer, tally)?,
     }
     console.finish()
 }
@@ -206,22 +222,27 @@ fn print(
 fn counted<'m>(
     rt: &HostRuntime,
     opened: &Opened<'_>,
-    listing: &Listing<'_>,
+    listing: &mut Listing<'_>,
     describer: &mut Describer<'_, 'm>,
     place: usize,
-    (count, statistics): (&mut Count, &mut Statistics),
+    tally: &mut Tally<'_>,
 ) -> Result<Option<Message<'m>>, AllocError> {
     let Some(mut message) = message_at(rt, opened, describer, place)? else {
         return Ok(None);
     };
-    let Some(level) = listing.level(message.code, message.level) else {
-        return Ok(None);
-    };
-    message.level = level;
-    count.add(level);
-    match statistics.add(message.code) {
-        Ok(()) if listing.is_printed(level) => Ok(Some(message)),
-        Ok(()) => Ok(None),
+    match tally.level_of(opened, listing, describer, place, &message) {
+        Ok(Some(level)) => {
+            message.level = level;
+            if listing.is_printed(level) {
+                return Ok(Some(message));
+            }
+            drop(message);
+            Ok(None)
+        }
+        Ok(None) => {
+            drop(message);
+            Ok(None)
+        }
         Err(error) => {
             drop(message);
             Err(error)
@@ -233,14 +254,13 @@ fn print_each(
     rt: &HostRuntime,
     opened: &Opened<'_>,
     console: &mut Console<'_>,
-    listing: &Listing<'_>,
+    listing: &mut Listing<'_>,
     describer: &mut Describer<'_, '_>,
-    (count, statistics): (&mut Count, &mut Statistics),
+    tally: &mut Tally<'_>,
 ) -> Result<(), Stop> {
     for place in 0..describer.len() {
-        let counts = (&mut *count, &mut *statistics);
-        if let Some(message) = counted(rt, opened, listing, describer, place, counts)? {
-            let pushed = push_message(rt.alloc(), console, listing.form, &message);
+        if let Some(message) = counted(rt, opened, listing, describer, place, tally)? {
+            let pushed = push_message(rt.alloc(), console, listing, &message);
             drop(message);
             pushed?;
         }
@@ -253,23 +273,29 @@ fn print_whole(
     rt: &HostRuntime,
     opened: &Opened<'_>,
     console: &mut Console<'_>,
-    listing: &Listing<'_>,
+    listing: &mut Listing<'_>,
     describer: &mut Describer<'_, '_>,
-    (count, statistics): (&mut Count, &mut Statistics),
+    tally: &mut Tally<'_>,
 ) -> Result<(), AllocError> {
     let alloc = rt.alloc();
     let mut messages = Vec::new(alloc);
     for place in 0..describer.len() {
-        let counts = (&mut *count, &mut *statistics);
-        if let Some(message) = counted(rt, opened, listing, describer, place, counts)? {
+        if let Some(message) = counted(rt, opened, listing, describer, place, tally)? {
             keep(&mut messages, message)?;
         }
     }
     let messages = messages.as_slice();
     match listing.form {
         Form::GitLab => push_gitlab(alloc, &mut console.out, messages),
-        Form::JUnit => push_junit(&mut console.out, messages, unlooked(opened, *count)),
-        _ => push_sarif(alloc, &mut console.out, "0.1.0", RULES, messages),
+        Form::JUnit => push_junit(&mut console.out, messages, unlooked(opened, tally.count)),
+        _ => push_sarif(
+            alloc,
+            &mut console.out,
+            "0.1.0",
+            RULES,
+            messages,
+            unlooked(opened, tally.count),
+        ),
     }
 }
 
@@ -293,15 +319,69 @@ fn keep<'m>(messages: &mut Vec<Message<'m>>, message: Message<'m>) -> Result<(),
 fn push_message(
     alloc: Global,
     console: &mut Console<'_>,
-    form: Form,
+    listing: &Listing<'_>,
     message: &Message<'_>,
 ) -> Result<(), Stop> {
-    match form {
+    match listing.form {
         Form::Lines => push_line(alloc, &mut console.out, message)?,
         Form::GitHub => push_annotation(&mut console.out, message)?,
-        _ => push_text(&mut console.out, message)?,
+        Form::Full => push_full(&mut console.out, message, listing.color)?,
+        _ => push_text(&mut console.out, message, listing.color)?,
     }
     console.pass()
+}
+
+// What becomes of findings.
+#[derive(Drop)]
+struct Tally<'d> {
+    count: Count,
+    statistics: Statistics,
+    known: Known<'d>,
+}
+
+impl Tally<'_> {
+    // The level of a finding, where it is listed, with a message on it; and counts it.
+    fn level_of(
+        &mut self,
+        opened: &Opened<'_>,
+        listing: &mut Listing<'_>,
+        describer: &Describer<'_, '_>,
+        place: usize,
+        message: &Message<'_>,
+    ) -> Result<Option<Level>, AllocError> {
+        let Some(finding) = describer.finding(place) else {
+            return Ok(None);
+        };
+        let path = match opened.paths.get(finding.source) {
+            Some(path) => path.as_str(),
+            None => "",
+        };
+        let Some(level) = listing.levels.level(path, message.code, message.level)? else {
+            return Ok(None);
+        };
+        if self
+            .known
+            .silences
+            .has(finding, message.line, message.code)?
+        {
+            self.known.silenced = self.known.silenced.saturating_add(1);
+            return Ok(None);
+        }
+        if self.known.has(path, message)? {
+            return Ok(None);
+        }
+        self.count.add(level);
+        self.statistics.add(message.code)?;
+        Ok(Some(level))
+    }
+
+    // The count of all.
+    fn finished(&self) -> Count {
+        let mut count = self.count;
+        count.silenced = self.known.silenced;
+        count.known = self.known.passed;
+        count
+    }
 }
 
 impl Count {
@@ -320,7 +400,12 @@ impl Count {
 }
 
 // The last line on standard error, but for the time.
-fn summary(rt: &HostRuntime, files: usize, count: Count, passed: usize) -> Result<(), Stop> {
+fn summary(
+    rt: &HostRuntime,
+    files: usize,
+    count: Count,
+    (passed, ignored): (usize, usize),
+) -> Result<(), Stop> {
     let mut line = String::new(rt.alloc());
     push_count(&mut line, files, "file")?;
     line.push_str(", ")?;
@@ -342,10 +427,19 @@ fn summary(rt: &HostRuntime, files: usize, count: Count, passed: usize) -> Resul
         push_count(&mut line, count.unplaced, "text")?;
         line.push_str(" under $ref in no place")?;
     }
+    if count.silenced > 0 {
+        write!(line, ", {} silenced", count.silenced)?;
+    }
+    if count.known > 0 {
+        write!(line, ", {} known", count.known)?;
+    }
     if passed > 0 {
         line.push_str(", ")?;
         push_count(&mut line, passed, "YAML file")?;
         line.push_str(" passed over")?;
+    }
+    if ignored > 0 {
+        write!(line, ", {ignored} left out by .gitignore")?;
     }
     let _ = eprint!(rt; "{line}");
     Ok(())

@@ -1,17 +1,21 @@
 //! What of findings is listed, and how.
+use crate::levels::Levels;
 use clap::ArgMatches;
-use ref_command_line::Stop;
-use ref_command_line::options::list_of;
-use ref_messages::{Chosen, Level, Plain, Suggester, level_in};
+use ref_command_line::{Configured, Stop};
+use ref_messages::{Color, Level, Plain};
 use ref_workspace::RULES;
 use std::alloc::{AllocError, Global};
 use std::collections::BTreeMap;
+use std::env;
+use std::io::IsTerminal;
 
 /// How findings are printed.
 #[derive(Clone, Copy, Drop, PartialEq, Eq)]
 pub enum Form {
     /// Lines for people.
     Text,
+    /// Lines for people, with those of the files.
+    Full,
     /// An object of JSON a line.
     Lines,
     /// A log of SARIF.
@@ -29,8 +33,10 @@ pub enum Form {
 pub struct Listing<'a> {
     /// How they are printed.
     pub form: Form,
+    /// How parts of text are set off.
+    pub color: Color,
     /// The levels that rules are set to.
-    pub choices: Vec<Chosen<'a>>,
+    pub levels: Levels<'a>,
     /// The least level that is printed.
     pub least: Level,
     /// How many warnings there may be, where that is asked for.
@@ -45,13 +51,21 @@ pub struct Listing<'a> {
 
 impl<'a> Listing<'a> {
     /// What a command line asks for. A rule that there isn't, or a number that is none, is said on standard error.
-    pub fn of(rt: &HostRuntime, given: &ArgMatches<'a>) -> Result<Listing<'a>, Stop> {
-        let choices = choices_of(rt, given)?;
-        let most_warnings = most_warnings_of(rt, given)?;
+    pub fn of(
+        rt: &HostRuntime,
+        given: &ArgMatches<'a>,
+        configured: &'a Configured,
+    ) -> Result<Listing<'a>, Stop> {
+        let levels = Levels::of(rt, given, configured)?;
+        let most_warnings = match most_warnings_of(rt, given)? {
+            Some(most) => Some(most),
+            None => configured.configuration.max_warnings,
+        };
         Ok(Listing {
-            form: form_of(given),
-            choices,
-            least: least_of(given),
+            form: form_of(rt, given),
+            color: color_of(rt, given),
+            levels,
+            least: least_of(given, configured),
             most_warnings,
             is_verbose: given.get_flag("verbose"),
             is_quiet: given.get_flag("quiet"),
@@ -61,16 +75,7 @@ impl<'a> Listing<'a> {
 
     /// Whether notes on references that weren't checked are listed: they are asked for, or their rule is set.
     pub fn has_unchecked(&self) -> bool {
-        self.is_verbose
-            || self
-                .choices
-                .iter()
-                .any(|chosen| chosen.code == "unchecked-reference")
-    }
-
-    /// The level of a finding of a rule, where it is listed at all.
-    pub fn level(&self, code: &str, own: Level) -> Option<Level> {
-        level_in(self.choices.as_slice(), code, own)
+        self.is_verbose || self.levels.has("unchecked-reference")
     }
 
     /// Whether a finding of a level is printed.
@@ -88,19 +93,54 @@ fn rank(level: Level) -> u8 {
     }
 }
 
-fn form_of(given: &ArgMatches<'_>) -> Form {
+fn form_of(rt: &HostRuntime, given: &ArgMatches<'_>) -> Form {
     match given.get_str("format") {
+        Some("text") => Form::Text,
+        Some("full") => Form::Full,
         Some("json") => Form::Lines,
         Some("sarif") => Form::Sarif,
         Some("github") => Form::GitHub,
         Some("gitlab") => Form::GitLab,
         Some("junit") => Form::JUnit,
+        _ if rt.stdout().is_terminal() => Form::Full,
         _ => Form::Text,
     }
 }
 
-fn least_of(given: &ArgMatches<'_>) -> Level {
-    match given.get_str("level") {
+// Colours are there where they are asked for, or on a terminal that has them.
+fn color_of(rt: &HostRuntime, given: &ArgMatches<'_>) -> Color {
+    let is_on = match given.get_str("color") {
+        Some("always") => true,
+        Some("never") => false,
+        _ => rt.stdout().is_terminal() && !is_set(rt, "NO_COLOR") && !is_dumb(rt),
+    };
+    if is_on { Color::Ansi } else { Color::None }
+}
+
+// Whether a variable of the environment is there and is not empty.
+fn is_set(rt: &HostRuntime, name: &str) -> bool {
+    match env::var(rt, name) {
+        Ok(value) => !value.is_empty(),
+        Err(env::VarError::NotPresent) => false,
+        Err(_) => true,
+    }
+}
+
+// Whether the terminal has no colours.
+fn is_dumb(rt: &HostRuntime) -> bool {
+    match env::var(rt, "TERM") {
+        Ok(value) => value.as_str() == "dumb",
+        Err(_) => false,
+    }
+}
+
+fn least_of(given: &ArgMatches<'_>, configured: &Configured) -> Level {
+    let name = match (given.get_str("level"), &configured.configuration.level) {
+        (Some(name), _) => Some(name),
+        (None, Some(name)) => Some(name.as_str()),
+        (None, None) => None,
+    };
+    match name {
         Some("error") => Level::Error,
         Some("warning") => Level::Warning,
         _ => Level::Note,
@@ -121,58 +161,6 @@ fn most_warnings_of(rt: &HostRuntime, given: &ArgMatches<'_>) -> Result<Option<u
             Err(Stop::Reported)
         }
     }
-}
-
-fn choices_of<'a>(rt: &HostRuntime, given: &ArgMatches<'a>) -> Result<Vec<Chosen<'a>>, Stop> {
-    let mut choices = Vec::new(rt.alloc());
-    for text in list_of(rt.alloc(), given, "rule")? {
-        match Chosen::parse(text) {
-            Some(chosen) if is_rule(chosen.code) => push(&mut choices, chosen)?,
-            Some(chosen) => {
-                say_unknown(rt, text, chosen.code)?;
-                return Err(Stop::Reported);
-            }
-            None => {
-                let _ = eprintln!(rt;
-                    "patchsard: --rule {}: not of the form RULE=LEVEL, with error, warning, note or off as its level",
-                    Plain(text)
-                );
-                return Err(Stop::Reported);
-            }
-        }
-    }
-    Ok(choices)
-}
-
-fn push<'a>(choices: &mut Vec<Chosen<'a>>, chosen: Chosen<'a>) -> Result<(), AllocError> {
-    choices.push(chosen)?;
-    Ok(())
-}
-
-fn is_rule(code: &str) -> bool {
-    RULES.iter().any(|rule| rule.code == code)
-}
-
-// Says that there is no such rule, and which may be meant.
-fn say_unknown(rt: &HostRuntime, text: &str, code: &str) -> Result<(), AllocError> {
-    let _ = eprintln!(rt;
-        "patchsard: --rule {}: there is no rule '{}'",
-        Plain(text),
-        Plain(code)
-    );
-    let mut suggester = Suggester::new(65_536);
-    suggester.begin();
-    for rule in RULES {
-        if suggester.distance(rt.alloc(), code, rule.code)?.is_some() {
-            let _ = eprintln!(rt; "    did you mean '{}'?", rule.code);
-            return Ok(());
-        }
-    }
-    let _ = eprintln!(rt; "    the rules are");
-    for rule in RULES {
-        let _ = eprintln!(rt; "        {}", rule.code);
-    }
-    Ok(())
 }
 
 /// How many findings each rule has.

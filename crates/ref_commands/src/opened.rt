@@ -1,7 +1,7 @@
 //! The documents that a command line names.
 use clap::ArgMatches;
 use ref_command_line::options::{maps, reading_of, say_unused};
-use ref_command_line::{Reading, Stop, say, say_failures};
+use ref_command_line::{Configured, Reading, Stop, say, say_failures};
 use ref_error::Error;
 use ref_files::{BrokenFile, Format, Listed, Maps, ReadFile, list_files, list_one, read_all};
 use ref_messages::Plain;
@@ -21,11 +21,24 @@ pub struct Opened<'r> {
     pub has_failed: bool,
     /// How many files of YAML below folders were passed over.
     pub passed: usize,
+    /// How many files and folders were left out since Git leaves them out.
+    pub ignored: usize,
 }
 
-/// Opens the files that a command line names, and those of `--with`.
-pub fn open_given<'r>(rt: &'r HostRuntime, given: &ArgMatches<'_>) -> Result<Opened<'r>, Stop> {
-    let reading = reading_of(rt, given)?;
+/// Opens the files that a command line names, or else a configuration, and those of `--with`.
+pub fn open_given<'r, 'a>(
+    rt: &'r HostRuntime,
+    given: &ArgMatches<'a>,
+    configured: &'a Configured,
+) -> Result<Opened<'r>, Stop> {
+    let reading = reading_of(rt, given, configured)?;
+    if reading.selection.paths.is_empty() {
+        say(
+            rt,
+            "nothing to read is named: give a PATH, or paths in patchsard.toml",
+        );
+        return Err(Stop::Reported);
+    }
     let listed = list_files(rt, &reading.selection)?;
     say_failures(rt, &listed.failures);
     say_unused(rt, listed.unused.as_slice());
@@ -33,12 +46,13 @@ pub fn open_given<'r>(rt: &'r HostRuntime, given: &ArgMatches<'_>) -> Result<Ope
 }
 
 /// Opens the file that a command line names, and those of `--with`. A file that is to be written isn't among these.
-pub fn open_file<'r>(
+pub fn open_file<'r, 'a>(
     rt: &'r HostRuntime,
-    given: &ArgMatches<'_>,
+    given: &ArgMatches<'a>,
+    configured: &'a Configured,
     output: Option<&str>,
 ) -> Result<Opened<'r>, Stop> {
-    let reading = reading_of(rt, given)?;
+    let reading = reading_of(rt, given, configured)?;
     let mut listed = list_one(rt, reading.file, &reading.selection, output)?;
     say_failures(rt, &listed.failures);
     // What is wrong with any of them is asked about, since the first one may need it.
@@ -64,6 +78,7 @@ fn open_listed<'r>(
         maps,
         has_failed,
         passed: read.passed.len(),
+        ignored: listed.ignored,
     };
     for file in read.files {
         opened.open(file)?;

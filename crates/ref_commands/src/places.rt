@@ -3,7 +3,7 @@
 use crate::listing::{push_described, push_document};
 use crate::opened::{open_given, reported};
 use clap::ArgMatches;
-use ref_command_line::{Console, Stop, say_of};
+use ref_command_line::{Configured, Console, Stop, say_of};
 use ref_files::Format;
 use ref_index::Place;
 use ref_workspace::world::world_of;
@@ -12,12 +12,13 @@ use std::alloc::Global;
 
 /// Lists each subschema of files. The status is 0, 1 where a file has no places for a fault of its own, and 2 where a
 /// path couldn't be read.
-pub fn places(
+pub fn places<'a>(
     rt: &HostRuntime,
     console: &mut Console<'_>,
-    given: &ArgMatches<'_>,
+    given: &ArgMatches<'a>,
+    configured: &'a Configured,
 ) -> Result<u8, Stop> {
-    let opened = open_given(rt, given)?;
+    let opened = open_given(rt, given, configured)?;
     let status = listed(rt, console, &opened.workspace);
     let has_failed = opened.has_failed;
     drop(opened);

@@ -4,7 +4,7 @@ use crate::left_out::say_fault;
 use crate::opened::{Opened, open_file, reported};
 use crate::shown::push_found;
 use clap::ArgMatches;
-use ref_command_line::{Console, Stop, say_of};
+use ref_command_line::{Configured, Console, Stop, say_of};
 use ref_error::Error;
 use ref_messages::Plain;
 use ref_uri::Uri;
@@ -15,10 +15,11 @@ use std::alloc::{AllocError, Global};
 
 /// Follows a reference from a place of a file. The status is 0 where it resolves, 1 where it is unresolvable, and 2
 /// where a path couldn't be read or the place isn't given by a pointer.
-pub fn resolve(
+pub fn resolve<'a>(
     rt: &HostRuntime,
     console: &mut Console<'_>,
-    given: &ArgMatches<'_>,
+    given: &ArgMatches<'a>,
+    configured: &'a Configured,
 ) -> Result<u8, Stop> {
     let from = given.get_str("from").unwrap_or("");
     if !is_pointer(from) {
@@ -28,7 +29,7 @@ pub fn resolve(
         );
         return Err(Stop::Reported);
     }
-    let opened = open_file(rt, given, None)?;
+    let opened = open_file(rt, given, configured, None)?;
     let status = if opened.has_failed {
         Ok(2)
     } else {

@@ -1,0 +1,221 @@
+//! The levels of rules, by the configuration and the command line.
+use clap::ArgMatches;
+use ref_command_line::options::list_of;
+use ref_command_line::{Configured, Stop, say_failures};
+use ref_configuration::Level as Set;
+use ref_files::{Exclusion, Exclusions, Failures};
+use ref_messages::{Chosen, Level, Plain, Suggester, level_in};
+use ref_workspace::RULES;
+use std::alloc::{AllocError, Global};
+
+/// The levels that rules are set to: by the configuration, then by its overrides for some files, and then by the command line.
+#[derive(Drop)]
+pub struct Levels<'a> {
+    alloc: Global,
+    first: Vec<Chosen<'a>>,
+    overrides: Vec<FileLevels<'a>>,
+    last: Vec<Chosen<'a>>,
+}
+
+// Levels of rules in some files.
+#[derive(Drop)]
+struct FileLevels<'a> {
+    files: Exclusions,
+    choices: Vec<Chosen<'a>>,
+}
+
+impl<'a> Levels<'a> {
+    /// What a configuration and a command line set. A rule that there isn't is said on standard error.
+    pub fn of(
+        rt: &HostRuntime,
+        given: &ArgMatches<'a>,
+        configured: &'a Configured,
+    ) -> Result<Levels<'a>, Stop> {
+        let configuration = &configured.configuration;
+        let first = chosen_of(rt, configured, configuration.rules.as_slice())?;
+        let mut overrides = Vec::new(rt.alloc());
+        for one in &configuration.overrides {
+            let files = files_of(rt, configured, one.files.as_slice())?;
+            let choices = chosen_of(rt, configured, one.rules.as_slice())?;
+            push_levels(&mut overrides, FileLevels { files, choices })?;
+        }
+        let last = choices_of(rt, given)?;
+        Ok(Levels {
+            alloc: rt.alloc(),
+            first,
+            overrides,
+            last,
+        })
+    }
+
+    /// The level of a finding of a rule in the file at an absolute path, where it is listed at all. `own` is the rule's own.
+    pub fn level(
+        &mut self,
+        path: &str,
+        code: &str,
+        own: Level,
+    ) -> Result<Option<Level>, AllocError> {
+        let mut level = level_in(self.first.as_slice(), code, Some(own));
+        for one in &mut self.overrides {
+            if one.files.has(path)? {
+                level = level_in(one.choices.as_slice(), code, level);
+            }
+        }
+        Ok(level_in(self.last.as_slice(), code, level))
+    }
+
+    /// Whether a rule is set somewhere.
+    pub fn has(&self, code: &str) -> bool {
+        has(self.first.as_slice(), code)
+            || has(self.last.as_slice(), code)
+            || self
+                .overrides
+                .iter()
+                .any(|one| has(one.choices.as_slice(), code))
+    }
+
+    /// Adds what is set as parts of a configuration, without overrides.
+    pub fn push(&self, out: &mut String) -> Result<(), AllocError> {
+        out.push_str("[rules]\n")?;
+        for rule in RULES {
+            if self.has(rule.code) {
+                let level = level_in(self.first.as_slice(), rule.code, None);
+                let level = level_in(self.last.as_slice(), rule.code, level);
+                let name = match level {
+                    Some(level) => level.name(),
+                    None => "off",
+                };
+                write!(out, "{} = \"{name}\"\n", rule.code)?;
+            }
+        }
+        Ok(())
+    }
+}
+
+fn push_levels<'a>(
+    list: &mut Vec<FileLevels<'a>>,
+    levels: FileLevels<'a>,
+) -> Result<(), AllocError> {
+    list.push(levels)?;
+    Ok(())
+}
+
+fn has(choices: &[Chosen<'_>], code: &str) -> bool {
+    choices.iter().any(|chosen| chosen.code == code)
+}
+
+// The files of an override.
+fn files_of(
+    rt: &HostRuntime,
+    configured: &Configured,
+    texts: &[String],
+) -> Result<Exclusions, Stop> {
+    let mut failures = Failures::new(rt.alloc());
+    let mut files = Exclusions::new(rt.alloc());
+    for text in texts {
+        files.add(
+            rt,
+            &mut failures,
+            Exclusion {
+                folder: configured.folder.as_str(),
+                text: text.as_str(),
+                is_path: false,
+                is_told: false,
+            },
+        )?;
+    }
+    say_failures(rt, &failures);
+    if failures.has_failed {
+        return Err(Stop::Reported);
+    }
+    Ok(files)
+}
+
+// What a configuration sets rules to.
+fn chosen_of<'a>(
+    rt: &HostRuntime,
+    configured: &Configured,
+    levels: &'a [Set],
+) -> Result<Vec<Chosen<'a>>, Stop> {
+    let mut choices = Vec::new(rt.alloc());
+    for set in levels {
+        let code = set.rule.as_str();
+        if !is_rule(code) {
+            let name = match &configured.name {
+                Some(name) => name.as_str(),
+                None => "",
+            };
+            say_unknown(rt, name, code)?;
+            return Err(Stop::Reported);
+        }
+        push(
+            &mut choices,
+            Chosen {
+                code,
+                level: level_of(set.level.as_str()),
+            },
+        )?;
+    }
+    Ok(choices)
+}
+
+fn level_of(name: &str) -> Option<Level> {
+    match name {
+        "error" => Some(Level::Error),
+        "warning" => Some(Level::Warning),
+        "note" => Some(Level::Note),
+        _ => None,
+    }
+}
+
+fn choices_of<'a>(rt: &HostRuntime, given: &ArgMatches<'a>) -> Result<Vec<Chosen<'a>>, Stop> {
+    let mut choices = Vec::new(rt.alloc());
+    for text in list_of(rt.alloc(), given, "rule")? {
+        match Chosen::parse(text) {
+            Some(chosen) if is_rule(chosen.code) => push(&mut choices, chosen)?,
+            Some(chosen) => {
+                say_unknown(rt, text, chosen.code)?;
+                return Err(Stop::Reported);
+            }
+            None => {
+                let _ = eprintln!(rt;
+                    "patchsard: --rule {}: not of the form RULE=LEVEL, with error, warning, note or off as its level",
+                    Plain(text)
+                );
+                return Err(Stop::Reported);
+            }
+        }
+    }
+    Ok(choices)
+}
+
+fn push<'a>(choices: &mut Vec<Chosen<'a>>, chosen: Chosen<'a>) -> Result<(), AllocError> {
+    choices.push(chosen)?;
+    Ok(())
+}
+
+fn is_rule(code: &str) -> bool {
+    RULES.iter().any(|rule| rule.code == code)
+}
+
+// Says that there is no such rule, and which may be meant.
+fn say_unknown(rt: &HostRuntime, text: &str, code: &str) -> Result<(), AllocError> {
+    let _ = eprintln!(rt;
+        "patchsard: --rule {}: there is no rule '{}'",
+        Plain(text),
+        Plain(code)
+    );
+    let mut suggester = Suggester::new(65_536);
+    suggester.begin();
+    for rule in RULES {
+        if suggester.distance(rt.alloc(), code, rule.code)?.is_some() {
+            let _ = eprintln!(rt; "    did you mean '{}'?", rule.code);
+            return Ok(());
+        }
+    }
+    let _ = eprintln!(rt; "    the rules are");
+    for rule in RULES {
+        let _ = eprintln!(rt; "        {}", rule.code);
+    }
+    Ok(())
+}
