@@ -105,7 +105,7 @@ class Found(Files):
         self.assertEqual(codes(wanting, rule={"missing-document": "off"}), [])
         old = self.write("own/old.json", {"id": "https://example.com/b.json", "definitions": {"a": {"id": "c.json"}}, "not": {"$ref": "c.json"}})
         for draft, expected in (("4", []), (patchsard.jsonschema.DRAFT4, []), ("2019-09", ["missing-document"]), (None, ["missing-document"])):
-            self.assertEqual(codes(old, draft=draft), expected)
+            self.assertEqual(codes(old, draft=draft, level="error"), expected)
         self.write("yaml/a.yaml", "not: {$ref: '#/no'}\n")
         self.assertEqual(codes(f"{self.room}/yaml"), [])
         self.assertEqual(codes(f"{self.room}/yaml", yaml=True), ["pointer-to-nowhere"])
