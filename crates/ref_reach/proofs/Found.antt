@@ -1,5 +1,5 @@
 -- What a look-up found, by the steps that find it.
-use Rattle.std.proofs.Common.{◌≡◌, ◌∙◌, ℕ, List, [], ◌∷◌, Ok, Err, Option, Some, None, option_map, option_and_then, slice_get, ap, sym}
+use Rattle.std.proofs.Common.{◌≡◌, ◌∙◌, ℕ, List, [], ◌∷◌, Ok, Err, Option, Some, option_map, option_and_then, slice_get, ap, sym}
 use Rattle.serde_json.specs.Data.{Data}
 use Rattle.ref_paths.specs.Path.{Part, value_at}
 use Rattle.ref_definitions.specs.Lookup.{Found}

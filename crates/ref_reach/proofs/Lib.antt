@@ -2,3 +2,6 @@ pub mod Lists
 pub mod Growing
 pub mod Found
 pub mod Roots
+pub mod Closing
+pub mod Following
+pub mod Ring

@@ -1,6 +1,9 @@
 pub mod Places
+pub mod Held
 pub mod Leading
 pub mod Schemas
+pub mod Reached
 pub mod Views
 pub mod Knowing
+pub mod Rows
 pub mod inner

@@ -1,5 +1,5 @@
 -- Places of documents, and those that descriptions have by themselves.
-use Rattle.std.specs.Prelude.{◌≡◌, ℕ, List, [], ◌∷◌, ◌++◌, map, flat_map, Bool, is_some, codes, if◌then◌else◌, Option, Some, None, option_map, option_and_then, unwrap_or, decimal, slice_get}
+use Rattle.std.specs.Prelude.{◌≡◌, ℕ, List, [], ◌∷◌, ◌++◌, map, flat_map, Bool, is_some, codes, if◌then◌else◌, Option, None, option_and_then, unwrap_or, decimal, slice_get}
 use Rattle.std.specs.Option.{option_map_or}
 use Rattle.std.specs.List.{enumerate_from}
 use Rattle.std.specs.Result.{result_ok}

@@ -1,10 +1,13 @@
 //! The documents, and what references are looked up in.
-ghost use Rattle.std.specs.Prelude.{◌≡◌, ◌==◌, map, length, option_map, IfOk};
+ghost use Rattle.std.specs.Prelude.{◌≡◌, ◌==◌, ◌++◌, ◌∷◌, [], map, length, option_map, IfOk, OnOk};
 ghost use Rattle.serde_json.specs.View.{view};
+ghost use Rattle.ref_index.specs.Contents.{tree_of};
+ghost use Rattle.ref_descriptions.specs.Versions.{version_of};
+ghost use Rattle.ref_reach.specs.Held.{draft_for, tree_read, held, held_source, held_part, identified, layer_held, parts_held};
 ghost use Rattle.ref_reach.specs.Places.{AreOwn, own_at};
 ghost use Rattle.ref_reach.specs.Leading.{version_at};
 ghost use Rattle.ref_reach.specs.Views.{source_of, place_of};
-ghost use Rattle.ref_reach.specs.Knowing.{known_of};
+ghost use Rattle.ref_reach.specs.Knowing.{known_of, part_in};
 
 use crate::described::{Documents, Part};
 use crate::own::{own_places, roots_of};
@@ -29,7 +32,9 @@ pub struct Source<'v> {
 }
 
 // The draft that a document is in the index with. Of a description it counts only for the `definitions` of 2.0.
-fn draft_in(draft: Draft, value: &Value) -> Draft {
+fn draft_in(draft: Draft, value: &Value) -> Draft
+    ensures { result ≡ draft_for draft (version_of (view value.now)) }
+{
     match version_of(value) {
         Some(Version::V2_0) | Some(Version::V3_0) => Draft::Draft7,
         _ => draft,
@@ -42,7 +47,9 @@ fn contents_of<'v>(
     uri: &Uri,
     value: &'v Value,
     draft: Draft,
-) -> Result<Contents<'v>, AllocError> {
+) -> Result<Contents<'v>, AllocError>
+    ensures { IfOk result (λ contents. tree_of contents ≡ tree_read draft uri.now (view value.now)) }
+{
     let source = ref_findings::Source {
         uri: uri.clone()?,
         value: Some(value),
@@ -61,7 +68,10 @@ fn with_document<'v>(
     uri: &Uri,
     value: &'v Value,
     draft: Draft,
-) -> Result<Walked<'v>, AllocError> {
+) -> Result<Walked<'v>, AllocError>
+    ensures { IfOk result
+        (λ more. more ≡ walked.entry ++ held draft uri.now (view value.now) ∷ []) }
+{
     let contents = contents_of(alloc, uri, value, draft)?;
     let document = Document {
         uri: uri.clone()?,
@@ -82,7 +92,10 @@ fn walked_of<'v>(
     alloc: Global,
     draft: Draft,
     sources: &[Source<'v>],
-) -> Result<Walked<'v>, AllocError> {
+) -> Result<Walked<'v>, AllocError>
+    ensures { IfOk result
+        (λ walked. walked ≡ map (held_source draft) (map source_of sources.now)) }
+{
     let mut walked = Walked::new(alloc);
     for source in sources {
         let draft = draft_in(draft, source.value);
@@ -92,8 +105,33 @@ fn walked_of<'v>(
 }
 
 // The draft that a part is in the index with.
-fn draft_of(place: &Place<'_>) -> Draft {
+fn draft_of(place: &Place<'_>) -> Draft
+    ensures { result ≡ (place_of place.now).reading.draft }
+{
     place.reading.draft
+}
+
+// Documents, and after them a place that has a URI of its own, where it has one.
+fn with_part<'v>(
+    alloc: Global,
+    walked: Walked<'v>,
+    place: &Place<'v>,
+    parts: &mut Vec<Part<'v>>,
+) -> Result<Walked<'v>, AllocError>
+    ensures walked { IfOk result
+        (λ more. more ≡ walked.entry ++ map held_part (identified (place_of place.now ∷ []))) }
+    ensures parts { OnOk result
+        (map part_in parts.new.items
+        ≡ map part_in parts.old.items ++ parts_held (place_of place.now ∷ [])) }
+{
+    if !place.is_identified {
+        return Ok(walked);
+    }
+    parts.push(Part {
+        document: place.document,
+        path: place.path.clone()?,
+    })?;
+    with_document(alloc, walked, &place.base, place.value, draft_of(place))
 }
 
 // The documents, and after them those places that have a URI of their own.
@@ -102,16 +140,17 @@ fn with_parts<'v>(
     walked: Walked<'v>,
     places: &[Place<'v>],
     parts: &mut Vec<Part<'v>>,
-) -> Result<Walked<'v>, AllocError> {
+) -> Result<Walked<'v>, AllocError>
+    ensures walked { IfOk result
+        (λ more. more
+        ≡ walked.entry ++ map held_part (identified (map place_of places.now))) }
+    ensures parts { OnOk result
+        (map part_in parts.new.items
+        ≡ map part_in parts.old.items ++ parts_held (map place_of places.now)) }
+{
     let mut walked = walked;
     for place in places {
-        if place.is_identified {
-            parts.push(Part {
-                document: place.document,
-                path: place.path.clone()?,
-            })?;
-            walked = with_document(alloc, walked, &place.base, place.value, draft_of(place))?;
-        }
+        walked = with_part(alloc, walked, place, parts)?;
     }
     Ok(walked)
 }
@@ -154,6 +193,9 @@ pub fn documents_of<'v>(
     ensures trees { IfOk result
         (λ d. (known_of d).trees ≡ map (λ s. (source_of s).tree) sources.now) }
     ensures own { IfOk result (λ d. AreOwn (map source_of sources.now) (known_of d).own) }
+    ensures parts { IfOk result (λ d. (known_of d).parts ≡ parts_held (known_of d).own) }
+    ensures layer { IfOk result
+        (λ d. (known_of d).layer ≡ layer_held draft (map source_of sources.now) (known_of d).own) }
 {
     let own = own_places(alloc, roots_of(alloc, sources)?)?;
     let table = table_of(alloc, own.as_slice())?;

@@ -8,6 +8,7 @@
 
 mod described;
 mod documents;
+pub mod examples;
 mod finding;
 mod leading;
 mod lookup;

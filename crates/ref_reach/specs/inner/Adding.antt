@@ -1,5 +1,5 @@
 -- What is added to lists.
-use Rattle.std.specs.Prelude.{◌≡◌, ℕ, List, [], ◌∷◌, ◌++◌, map, Bool, true, false, slice_get, Option, Some, None}
+use Rattle.std.specs.Prelude.{◌≡◌, ℕ, List, ◌++◌, map, Bool, true, false, slice_get, Some, None}
 use Rattle.ref_reach.specs.declared.place.Place as rust
 use Rattle.ref_reach.specs.Places.{Place, below_place}
 use Rattle.ref_reach.specs.Views.{place_of}

@@ -1,12 +1,12 @@
 -- What the program says of references.
-use Rattle.std.specs.Prelude.{◌≡◌, ⊤, map, Bool, true, false, Option, Some, None, Result, Ok, Err}
+use Rattle.std.specs.Prelude.{◌≡◌, ⊤, Bool, true, false}
 use Rattle.serde_json.specs.View.{view}
 use Rattle.ref_error.specs.declared.error.Error.{Error}
 use Rattle.ref_error.specs.declared.error.Error.TheVariants as error
 use Rattle.ref_reach.specs.declared.leading.Outcome as rust
 use Rattle.ref_reach.specs.declared.leading.Outcome.TheVariants as outcome
 use Rattle.ref_reach.specs.declared.leading.Target as rust_target
-use Rattle.ref_reach.specs.Leading.{Outcome, Leads, Nothing, Wrong, Target}
+use Rattle.ref_reach.specs.Leading.{Outcome, Leads, Nothing, Wrong, WrongKind, Target}
 use Rattle.ref_reach.specs.Views.{place_of, IsProblemOf}
 
 -- the program's outcome is the outcome
@@ -31,3 +31,10 @@ target_of t =
 abbrev pub is_unretrievable : Error → Bool
 is_unretrievable (error.Unretrievable uri source) = true
 is_unretrievable other = false
+
+-- whether a reference leads to a place, or to an object of another kind
+abbrev pub is_led : Outcome → Bool
+is_led (Leads p) = true
+is_led Nothing = false
+is_led (Wrong (WrongKind uri is wanted)) = true
+is_led (Wrong other) = false

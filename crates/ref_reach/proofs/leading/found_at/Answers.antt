@@ -1,4 +1,4 @@
-use Rattle.std.proofs.Common.{◌≡◌, ℕ, List, ◌∙◌, None, Some, option_map, map, slice_get, refl, ap, sym, rules}
+use Rattle.std.proofs.Common.{◌≡◌, ℕ, List, ◌∙◌, None, Some, map, slice_get, rules}
 use Rattle.serde_json.specs.View.{view}
 use Rattle.ref_paths.specs.Path.{Part, value_at}
 use Rattle.ref_paths.specs.Segment.{part_of}

@@ -1,6 +1,6 @@
-use Rattle.std.proofs.Common.{◌≡◌, true, false, map, rules}
+use Rattle.std.proofs.Common.{◌≡◌, true, map, rules}
 use Rattle.ref_reach.specs.Views.{place_of}
-use Rattle.ref_reach.proofs.Growing.{own_step, own_end}
+use Rattle.ref_reach.proofs.Growing.{own_step}
 use Rattle.ref_reach.proofs.own.own_places.Goals as goal
 
 pub loop-number-preserved : goal.loop-number-preserved

@@ -1,7 +1,7 @@
 use Rattle.std.proofs.Common.{◌≡◌, ◌∙◌, ◌++◌, [], ◌∷◌, map, take, ap, sym, rules}
 use Rattle.std.specs.List.{enumerate_from}
 use Rattle.std.proofs.lemmas.List.{map-append}
-use Rattle.ref_reach.specs.Places.{own_entry, own_entries}
+use Rattle.ref_reach.specs.Places.{own_entry}
 use Rattle.ref_reach.specs.Views.{place_of}
 use Rattle.ref_reach.proofs.Lists.{numbered_more}
 use Rattle.ref_reach.proofs.table.table_of.Goals as goal
