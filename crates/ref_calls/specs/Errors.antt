@@ -32,14 +32,14 @@ not_json_members reason offset =
 unfoldable pub not_json : NotJson → ℕ → Data
 not_json reason offset = object_of (not_json_members reason offset)
 
--- the error of a text that isn't read as YAML: what is wrong, by the name of the fault, and where, in bytes of the text
-abbrev pub not_yaml_members : List ℕ → ℕ → List (List ℕ × Data)
-not_yaml_members reason offset =
-    error_members (codes "NotYaml") (codes "The text is no YAML: " ++ reason)
+-- the error of a text that isn't read as YAML: what is wrong, by the name of the fault, a sentence on it, and where, in bytes of the text
+abbrev pub not_yaml_members : List ℕ → List ℕ → ℕ → List (List ℕ × Data)
+not_yaml_members reason sentence offset =
+    error_members (codes "NotYaml") sentence
     ++ (codes "reason", string reason) ∷ (codes "offset", whole offset) ∷ []
 
-unfoldable pub not_yaml : List ℕ → ℕ → Data
-not_yaml reason offset = object_of (not_yaml_members reason offset)
+unfoldable pub not_yaml : List ℕ → List ℕ → ℕ → Data
+not_yaml reason sentence offset = object_of (not_yaml_members reason sentence offset)
 
 -- ---- where it is in a call
 

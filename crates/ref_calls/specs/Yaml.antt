@@ -11,11 +11,12 @@ use Rattle.ref_calls.specs.Calls.{required_member, text_in, document_of}
 
 -- ---- a text
 
--- the value of a text of YAML; or its error, with a reason and a place within the text or at its end
+-- the value of a text of YAML; or its error, with a reason, a sentence, and a place within the text or at its end
 abbrev pub IsYamlRead : List ℕ → Result Data Data → Type 0
 IsYamlRead text (Ok value) = IsYamlOf text value
 IsYamlRead text (Err error) =
-    (reason : List ℕ) × (offset : ℕ) × (offset ≤ length text) × (error ≡ not_yaml reason offset)
+    (reason : List ℕ) × (sentence : List ℕ) × (offset : ℕ) × (offset ≤ length text)
+    × (error ≡ not_yaml reason sentence offset)
 
 -- ---- a document
 

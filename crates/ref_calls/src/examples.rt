@@ -128,10 +128,12 @@ pub fn documents_in_yaml()
     ensures alone { yaml_document (list (one "yaml" (text "b"))) ≡ None }
     ensures with_its_value { with_value (codes "a") yes ≡ pair (text "a") yes }
     ensures stays { IsItemRead (pair (text "a") yes) (Ok (pair (text "a") yes)) }
-    ensures name_of_no_yaml { get (codes "name") (not_yaml (codes "depth") 5)
+    ensures name_of_no_yaml { get (codes "name") (not_yaml (codes "depth") (codes "s") 5)
         ≡ Some (text "NotYaml") }
-    ensures reason { get (codes "reason") (not_yaml (codes "depth") 5) ≡ Some (text "depth") }
-    ensures offset { get (codes "offset") (not_yaml (codes "depth") 5) ≡ Some (whole_number 5) }
+    ensures reason { get (codes "reason") (not_yaml (codes "depth") (codes "s") 5) ≡ Some (text "depth") }
+    ensures sentence { get (codes "message") (not_yaml (codes "depth") (codes "s") 5)
+        ≡ Some (text "s") }
+    ensures offset { get (codes "offset") (not_yaml (codes "depth") (codes "s") 5) ≡ Some (whole_number 5) }
     ensures shown { value_object yes ≡ one "value" yes }
 {}
 
@@ -153,6 +155,8 @@ pub fn reasons()
 pub fn errors()
     ensures no_json { get (codes "name") (not_json Depth 5) ≡ Some (text "NotJson") }
     ensures why { get (codes "reason") (not_json Depth 5) ≡ Some (text "depth") }
+    ensures sentence { get (codes "message") (not_yaml (codes "depth") (codes "s") 5)
+        ≡ Some (text "s") }
     ensures offset { get (codes "offset") (not_json Depth 5) ≡ Some (whole_number 5) }
     ensures unknown { get (codes "name") (field_error UnknownField (codes "a"))
         ≡ Some (text "UnknownField") }

@@ -97,24 +97,28 @@ pub fn not_json(alloc: Global, reason: NotJson, offset: usize) -> Stop<Value>
     }
 }
 
-fn not_yaml_members(alloc: Global, reason: &str, offset: usize) -> Result<Members, AllocError>
+fn not_yaml_members(
+    alloc: Global,
+    reason: &str,
+    sentence: &str,
+    offset: usize,
+) -> Result<Members, AllocError>
     ensures { IfOk result
         (λ m. members_view m.entries
-        ≡ with_all (spec.not_yaml_members reason.now offset) no_members) }
+        ≡ with_all (spec.not_yaml_members reason.now sentence.now offset) no_members) }
 {
-    let message = format!(in alloc; "The text is no YAML: {reason}")?;
-    let mut members = error_members(alloc, "NotYaml", message.as_str())?;
+    let mut members = error_members(alloc, "NotYaml", sentence)?;
     put_text(alloc, &mut members, "reason", reason)?;
     put_number(alloc, &mut members, "offset", offset)?;
     Ok(members)
 }
 
-/// The error of a text that isn't read as YAML, with the name of what is wrong, and the place where it is, in bytes.
+/// The error of a text that isn't read as YAML, with the name of what is wrong, a sentence on it, and the place where it is, in bytes.
 #[tactic(auto, unfolding(crate::specs::Errors::not_yaml))]
-pub fn not_yaml(alloc: Global, reason: &str, offset: usize) -> Stop<Value>
-    ensures { IsStop result (spec.not_yaml reason.now offset) }
+pub fn not_yaml(alloc: Global, reason: &str, sentence: &str, offset: usize) -> Stop<Value>
+    ensures { IsStop result (spec.not_yaml reason.now sentence.now offset) }
 {
-    match not_yaml_members(alloc, reason, offset) {
+    match not_yaml_members(alloc, reason, sentence, offset) {
         Ok(members) => Stop::Because(Value::Object(members)),
         Err(_) => Stop::Memory,
     }

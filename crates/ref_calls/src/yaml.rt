@@ -22,7 +22,9 @@ fn value_of(alloc: Global, text: &str) -> Result<Value, Stop<Value>>
     match ref_yaml::from_str(alloc, text) {
         Ok(value) => Ok(value),
         Err(YamlStop::Memory) => Err(Stop::Memory),
-        Err(YamlStop::At(fault, offset)) => Err(not_yaml(alloc, fault.name(), offset)),
+        Err(YamlStop::At(fault, offset)) => {
+            Err(not_yaml(alloc, fault.name(), fault.advice(), offset))
+        }
     }
 }
 

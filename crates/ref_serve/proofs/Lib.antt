@@ -10,4 +10,5 @@ pub mod TextsRead
 pub mod Steps
 pub mod OpeningReads
 pub mod PlacesTold
+pub mod Scopes
 pub mod OnLiterals

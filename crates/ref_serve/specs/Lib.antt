@@ -9,5 +9,6 @@ pub mod Listings
 pub mod Faults
 pub mod Where
 pub mod Following
+pub mod Scopes
 pub mod Answering
 pub mod inner

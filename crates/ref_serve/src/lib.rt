@@ -13,6 +13,7 @@ pub mod examples;
 mod faults;
 mod following;
 mod given;
+pub mod laws;
 mod listing;
 mod looking;
 mod opening;
