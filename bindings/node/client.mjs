@@ -5,24 +5,44 @@
 //     patchsard.end();
 // `value` is the caller's own object, not a copy; of documents whose URIs mean the same the last counts. An error of the protocol is thrown as an `Error` with its `name` and its further members.
 import { spawn } from "node:child_process";
-import { createInterface } from "node:readline";
 
 export class Patchsard {
+    // Calls that wait for their answers: those from the number `#answered` on.
     #waiting = [];
+    #answered = 0;
     #lines = [];
     constructor(program = process.env.PATCHSARD ?? "patchsard") {
         this.process = spawn(program, ["serve"], { stdio: ["pipe", "pipe", "inherit"] });
-        createInterface({ input: this.process.stdout }).on("line", (line) => {
-            const { resolve, reject } = this.#waiting.shift(); // answers come in the order of the calls
-            const { result, error } = JSON.parse(line);
-            error ? reject(Object.assign(new Error(error.message), error)) : resolve(result);
+        const parts = []; // of a line that isn't whole yet
+        this.process.stdout.setEncoding("utf8").on("data", (text) => {
+            const lines = text.split("\n");
+            parts.push(lines[0]);
+            if (lines.length === 1) return;
+            lines[0] = parts.splice(0).join("");
+            parts.push(lines.pop());
+            for (const line of lines) this.#answer(line);
         });
         const end = (error) => {
             this.ended ??= error;
-            for (const { reject } of this.#waiting.splice(0)) reject(this.ended);
+            for (const { reject } of this.#waiting.splice(0).slice(this.#answered)) reject(this.ended);
         };
         for (const it of [this.process, this.process.stdin]) it.on("error", end);
         this.process.on("close", (status) => end(new Error(`${program} has ended, with status ${status}`)));
+    }
+    #answer(line) {
+        const { resolve, reject } = this.#first();
+        const { result, error } = JSON.parse(line);
+        error ? reject(Object.assign(new Error(error.message), error)) : resolve(result);
+    }
+    // Answers come in the order of the calls. Taking the first of many out of a list would move all others each time.
+    #first() {
+        const first = this.#waiting[this.#answered];
+        this.#waiting[this.#answered++] = undefined;
+        if (this.#answered >= 1024 && 2 * this.#answered >= this.#waiting.length) {
+            this.#waiting = this.#waiting.slice(this.#answered);
+            this.#answered = 0;
+        }
+        return first;
     }
     call(call, members) {
         if (this.ended) return Promise.reject(this.ended);

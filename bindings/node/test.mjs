@@ -34,6 +34,16 @@ test("calls that wait for one another's answers", async () => {
     assert.ok(all.every(({ value }, number) => value === (number % 2 ? order.$defs.item : order.$defs["a/b~c"])));
 });
 
+test("many calls at once, some of them made while others wait", async () => {
+    const registry = await patchsard.open([[base, { $defs: Object.fromEntries(Array.from({ length: 50 }, (_, number) => [number, { const: number }])) }]]);
+    const one = async (number) => {
+        const { value } = await registry.lookup(base, `#/$defs/${number % 50}`);
+        assert.equal(value.const, number % 50);
+        if (number % 7 === 0) assert.equal((await registry.lookup(base, `#/$defs/${number % 11}`)).value.const, number % 11);
+    };
+    await Promise.all(Array.from({ length: 3000 }, (_, number) => one(number)));
+});
+
 test("documents whose URIs mean the same", async () => {
     const [first, second, third] = [{ const: 1 }, { const: 2 }, { const: 3 }];
     const registry = await patchsard.open([["http://a/v", first], ["HTTP://a/v", second], ["http://a/w", third]]);

@@ -1,7 +1,8 @@
 """References of JSON Schema, resolved by the program patchsard, with the names of Python's `referencing`."""
+from typing import TYPE_CHECKING, Any
+
 from patchsard import exceptions, jsonschema
 from patchsard._core import Anchor, Dangling, Draft, Registry, Resolved, Resolver, Resource, Retrieved, from_yaml
-from patchsard._lint import Finding, Findings, Place, lint
 from patchsard.exceptions import (
     CallRefused,
     CallTimedOut,
@@ -26,7 +27,20 @@ from patchsard.exceptions import (
     Unretrievable,
 )
 
+if TYPE_CHECKING:
+    from patchsard._lint import Finding, Findings, Place, lint
+
 __version__ = "0.1.0"
+
+
+def __getattr__(name: str) -> Any:
+    """What `lint` needs is imported where it is asked for."""
+    if name in ("Finding", "Findings", "Place", "lint"):
+        from patchsard import _lint
+
+        return getattr(_lint, name)
+    raise AttributeError(f"module 'patchsard' has no attribute {name!r}")
+
 
 __all__ = [
     "Anchor",

@@ -3,11 +3,12 @@ from __future__ import annotations
 
 import json
 import re
+import sys
 import weakref
 from typing import Any, Callable, Dict, Iterable, Iterator, List, Literal, Mapping, NamedTuple, Optional, Sequence, Set, Tuple, TypeVar, Union, overload
 
 from patchsard import _process
-from patchsard.exceptions import CallRefused, CannotDetermineSpecification, InvalidUri, NoInternalID, NoSuchAnchor, NoSuchResource, NotYaml, ProcessEnded, Unresolvable, Unretrievable, from_answer
+from patchsard.exceptions import CallRefused, CannotDetermineSpecification, InvalidUri, NoInternalID, NoSuchAnchor, NoSuchResource, NotYaml, ProcessEnded, ProgramNotFound, Unresolvable, Unretrievable, from_answer
 
 Schema = Any
 Pairs = Iterable[Tuple[str, Any]]
@@ -18,10 +19,15 @@ _encode = json.JSONEncoder(separators=(",", ":"), allow_nan=False, ensure_ascii=
 _ROUNDS = 4
 # In place of a document that isn't there.
 _MISSING = object()
+# How the URIs of the drafts' meta-schemas begin.
+_OF_DRAFTS = ("http://json-schema.org/", "https://json-schema.org/")
 # As many registries may stand behind one another; a longer row is opened as one.
 _DEPTH = 8
 # As many references are asked in one line.
 _MOST_AT_ONCE = 1000
+# As many answers of a registry are kept; a dynamic anchor's only where the scope isn't longer.
+_MOST_KEPT = 10000
+_LONG_SCOPE = 32
 
 
 class Draft(NamedTuple):
@@ -96,9 +102,9 @@ class Resource:
             raise CannotDetermineSpecification(contents)
         return cls(contents, draft)
 
-    def id(self) -> Optional[str]:
-        """The identifier that the document gives itself."""
-        draft = self._draft()
+    def id(self, default: Draft = DRAFT202012) -> Optional[str]:
+        """The identifier that the document gives itself; by the default draft, where nothing says its own."""
+        draft = self.specification or _named(self.contents) or default
         if not isinstance(self.contents, dict):
             return None
         found = self.contents.get("id" if draft == DRAFT4 else "$id")
@@ -256,6 +262,10 @@ def _at(value: Schema, pointer: str) -> Schema:
     return value
 
 
+class _MetaWanted(Exception):
+    """A meta-schema is wanted, and the registry is to be opened with the meta-schemas."""
+
+
 class _Closed(ProcessEnded):
     """The registry was closed in the program, by another thread, since it was opened."""
 
@@ -263,28 +273,78 @@ class _Closed(ProcessEnded):
 class _Opened:
     """A registry as the program has it, until nothing refers to it."""
 
-    __slots__ = ("process", "number", "documents", "parent", "timeout", "close", "__weakref__")
+    __slots__ = ("process", "number", "documents", "parent", "timeout", "share", "uris", "unmet", "identified", "kept", "close", "__weakref__")
 
-    def __init__(self, process: _process.Process, number: int, documents: List[Schema], parent: Optional["_Opened"], timeout: Optional[float] = None) -> None:
+    def __init__(self, process: _process.Process, number: int, documents: List[Schema], parent: Optional["_Opened"], timeout: Optional[float] = None, size: int = 0) -> None:
         self.process = process
+        self.share = process.opened(size)
+        if parent is not None:
+            parent.share.is_parent = True
+        # The URIs of the documents, and the texts that the program was given `null` in place of.
+        self.uris: List[str] = []
+        self.unmet: List[_Unmet] = []
+        # By the URIs that documents were given under, here and in the parents, the identifiers that they give themselves, where those are others.
+        self.identified: Dict[str, str] = {} if parent is None else dict(parent.identified)
+        # Answers that were had before: an open registry doesn't change.
+        self.kept: Dict[Any, Any] = {}
         self.timeout = timeout
         self.number = number
         self.documents = documents
         self.parent = parent
-        self.close = weakref.finalize(self, process.close_later, number)
+        self.close = weakref.finalize(self, process.close_later, number, self.share)
         self.close.atexit = False
 
     def value(self, answer: Dict[str, Any]) -> Schema:
         """The caller's value at the place that an answer names."""
-        number = answer["registry"]
+        document = self.layer(answer["registry"]).documents[answer["document"]]
+        if document is _MISSING:
+            error = Unretrievable(answer["base"], "The document isn't there")
+            error.uri = answer["base"]
+            raise error
+        return _at(document, answer["pointer"])
+
+    def identify(self, identifiers: Dict[int, str]) -> None:
+        """Finds what the identifiers mean that documents give themselves, by their numbers."""
+        numbers = [number for number, text in identifiers.items() if text != self.uris[number]]
+        if numbers:
+            asked = [[self.uris[number], [], identifiers[number]] for number in numbers]
+            answers = self.ask("", "lookup", f',"base":"json-schema:///","reference":{_encode(asked)}')
+            # Where another document has the identifier, it doesn't mean this one.
+            found = {self.uris[it["document"]]: it["base"] for it, number in zip(answers, numbers) if it.get("registry") == self.number and it["document"] == number and not it["pointer"]}
+            self.identified = {**self.identified, **{uri: base for uri, base in found.items() if uri != base}}
+
+    def layer(self, number: int) -> "_Opened":
+        """The registry with a number: this one or a parent."""
         opened = self
         while opened.number != number:
             assert opened.parent is not None
             opened = opened.parent
-        document = opened.documents[answer["document"]]
-        if document is _MISSING:
-            raise Unretrievable(answer["base"], "The document isn't there")
-        return _at(document, answer["pointer"])
+        return opened
+
+    def uri_of(self, answer: Dict[str, Any]) -> str:
+        """The URI of the document that an answer names, where this or a parent may have identified it."""
+        if not self.identified:
+            return ""
+        uris = self.layer(answer["registry"]).uris
+        return uris[answer["document"]] if uris else ""
+
+    def room_for(self, count: int) -> Dict[Any, Any]:
+        """What was found and is kept, with room for so much more."""
+        if len(self.kept) + count > _MOST_KEPT:
+            self.kept.clear()
+        return self.kept
+
+    def keep(self, key: Any, found: Any) -> None:
+        """Keeps what was found for the next time."""
+        self.room_for(1)[key] = found
+
+    def without(self, uris: Set[str]) -> Set[str]:
+        """Those of some URIs under which there is no document here or in the parents."""
+        listed = sorted(uris)
+        if not listed:
+            return set()
+        answers = self.ask("", "lookup", f',"base":"json-schema:///","reference":{_encode(listed)}')
+        return {uri for uri, answer in zip(listed, answers) if answer.get("error", {}).get("name") == "Unretrievable"}
 
     def ask(self, ref: str, call: str, members: str = "") -> Any:
         """What the program answers, or the exception for its error."""
@@ -294,6 +354,16 @@ class _Opened:
                 raise _Closed(answer["error"]["message"])
             raise from_answer(answer["error"], ref)
         return answer["result"]
+
+
+class _Unmet(NamedTuple):
+    """A text that is no URI reference, or that refers to a document which isn't there: where it is, by the number of its document, and the program's error."""
+
+    document: int
+    pointer: str
+    keyword: str
+    text: str
+    error: Dict[str, Any]
 
 
 def _listed(texts: Dict[str, str]) -> str:
@@ -367,17 +437,21 @@ def _meta_schemas() -> List[Tuple[str, Schema]]:
     return [(uri, resource.contents) for uri, resource in REGISTRY.items() if _named(resource.contents)]
 
 
-def _meta(process: _process.Process) -> Optional[_Opened]:
-    """The registry of the meta-schemas, which is the parent of every other; opened once in a process."""
+def _meta(process: _process.Process, is_wanted: bool) -> Optional[_Opened]:
+    """The registry of the meta-schemas, which is the parent of every other, opened once in a process; none where they are not wanted and would have to be imported,
+    which takes longer than all else."""
     if process.meta is None:
+        if not is_wanted and "jsonschema_specifications" not in sys.modules:
+            return None
         documents = _meta_schemas()
         if not documents:
             process.meta = ()
         else:
-            answer = process.ask(f'{{"call":"open","documents":{_encode(documents)}}}\n'.encode("utf-8"))
+            line = f'{{"call":"open","documents":{_encode(documents)}}}\n'.encode("utf-8")
+            answer = process.ask(line)
             if "error" in answer:
                 raise from_answer(answer["error"], "")
-            process.meta = _Opened(process, answer["result"]["registry"], [contents for _, contents in documents], None)
+            process.meta = _Opened(process, answer["result"]["registry"], [contents for _, contents in documents], None, None, len(line))
     return process.meta or None
 
 
@@ -397,7 +471,11 @@ def _from_yaml(text: str, uri: Optional[str], timeout: Optional[float]) -> Schem
         line = f'{{"call":"yaml","text":{_encode(text)}}}\n'.encode("utf-8")
     except UnicodeEncodeError:
         raise _not_yaml("A text has half of a surrogate pair, which is no character", "character", text, None, uri) from None
-    answer = _process.shared().ask(line, timeout)
+    try:
+        answer = _process.shared().ask(line, timeout)
+    except ProcessEnded:
+        # Asking changes nothing, so it is done once more, by another process.
+        answer = _process.shared().ask(line, timeout)
     if "error" not in answer:
         return answer["result"]["value"]
     error = answer["error"]
@@ -430,7 +508,7 @@ class Registry(Mapping[str, Resource]):
     `jsonschema-specifications` is installed.
     """
 
-    __slots__ = ("_documents", "_retrieve", "_draft", "_limit", "_allow_missing", "_timeout", "_retrieved", "_base", "_parent", "_tolerant", "_opened", "__weakref__")
+    __slots__ = ("_documents", "_retrieve", "_draft", "_limit", "_allow_missing", "_timeout", "_retrieved", "_base", "_parent", "_tolerant", "_with_meta", "_opened", "__weakref__")
 
     def __init__(
         self,
@@ -455,6 +533,8 @@ class Registry(Mapping[str, Resource]):
         self._retrieved: Dict[str, Resource] = {}
         # The same registry with `allow_missing`, once one of its documents was missing.
         self._tolerant: Optional[Registry] = None
+        # Whether a meta-schema was wanted of it.
+        self._with_meta = False
         # The parent that the caller gave; `_parent` is the registry that this one was made from, where it is opened behind that.
         self._base: Optional[Registry] = parent if parent is None or isinstance(parent, Registry) else Registry(parent)
         self._parent: Optional[Registry] = None
@@ -470,12 +550,17 @@ class Registry(Mapping[str, Resource]):
         depth, registry = 1, self
         while registry._parent is not None:
             depth, registry = depth + 1, registry._parent
-        if self._is_open() and depth < _DEPTH and not any(uri in self for uri in added):
+        if self._is_open() and depth < _DEPTH and not any(self._has_given(uri) for uri in added):
             return self._evolved(added, {}, self)
         return self._evolved({**self._all(), **added}, self._all_retrieved(), None)
 
     def with_contents(self, pairs: Pairs, default_specification: Optional[Draft] = None) -> "Registry":
-        """A registry with more documents, each by the draft that it names, or the default one, or that of the registry."""
+        """A registry with more documents, each by the draft that it names, or the default one, or that of the registry.
+
+        >>> registry = Registry().with_contents([("u:a", {"definitions": {"b": {"id": "#c"}}})], default_specification=DRAFT4)
+        >>> registry.resolver("u:a").lookup("#c").contents
+        {'id': '#c'}
+        """
         return self.with_resources((uri, Resource(contents, None if _named(contents) else default_specification)) for uri, contents in pairs)
 
     def with_yaml(self, uri: str, text: str) -> "Registry":
@@ -488,7 +573,11 @@ class Registry(Mapping[str, Resource]):
         return self.with_resource(uri, Resource(_from_yaml(text, uri, self._timeout)))
 
     def remove(self, uri: str) -> "Registry":
-        """A registry without the document under a URI. `NoSuchResource` where there is none."""
+        """A registry without the document under a URI. `NoSuchResource` where there is none.
+
+        >>> list(Registry({"u:a": True, "u:b": False}).remove("u:a"))
+        ['u:b']
+        """
         documents = self._all()
         if documents.pop(uri.rstrip("#"), None) is None:
             raise NoSuchResource(uri)
@@ -525,7 +614,11 @@ class Registry(Mapping[str, Resource]):
         raise NoSuchAnchor(name, f"Anchor {name!r} does not exist")
 
     def __rmatmul__(self, new: Any) -> "Registry":
-        """A registry with a document, or several, under their own identifiers: `resource @ registry`. `NoInternalID` for one without."""
+        """A registry with a document, or several, under their own identifiers: `resource @ registry`. `NoInternalID` for one without.
+
+        >>> list([Resource({"$id": "u:a"}), Resource({"$id": "u:b"})] @ Registry())
+        ['u:a', 'u:b']
+        """
         resources = [_resource(it) for it in (new if isinstance(new, (list, tuple)) else [new])]
         pairs = []
         for resource in resources:
@@ -540,7 +633,11 @@ class Registry(Mapping[str, Resource]):
         raise TypeError("Validators of jsonschema take registries of `referencing` alone: ask patchsard.jsonschema.validator_for(schema, registry=..) for one with this registry")
 
     def combine(self, *registries: "Registry") -> "Registry":
-        """A registry with the documents of all. Only one of them may have a `retrieve` of its own, and only one a parent."""
+        """A registry with the documents of all. Only one of them may have a `retrieve` of its own, and only one a parent.
+
+        >>> list(Registry({"u:a": True}).combine(Registry({"u:b": True}), Registry({"u:c": True})))
+        ['u:a', 'u:b', 'u:c']
+        """
         documents, retrieved, retrieve, base = self._all(), self._all_retrieved(), self._retrieve, self._base
         for registry in registries:
             documents.update(registry._all())
@@ -567,7 +664,11 @@ class Registry(Mapping[str, Resource]):
         return Resolver(self, base_uri, ())
 
     def resolver_with_root(self, resource: Any) -> "Resolver":
-        """A resolver of references that stand in a document, which needs no URI, and is added to the registry."""
+        """A resolver of references that stand in a document, which needs no URI, and is added to the registry.
+
+        >>> Registry({"u:b": {"const": 1}}).resolver_with_root(Resource({"$ref": "u:b"})).lookup("u:b").contents
+        {'const': 1}
+        """
         resource = _resource(resource)
         return self._with_root(resource).resolver("").in_subresource(resource)
 
@@ -576,14 +677,28 @@ class Registry(Mapping[str, Resource]):
         return self[uri].contents
 
     def dangling(self) -> "List[Dangling]":
-        """The references of the registry's documents, and of those that they wanted, that find nothing."""
-        def listed(opened: _Opened) -> List[Dangling]:
-            return [Dangling(opened.documents[it["document"]], it["pointer"], from_answer(it["error"], "")) for it in opened.ask("", "dangling")]
+        """The references by `$ref` of the registry's documents, and of those that they wanted, that find nothing, each with the exception that a look-up of it raises. A document
+        that isn't there, and a text that is no URI reference, keep none of the others from being listed.
 
-        return self._as_one()._again(listed)
+        >>> [(it.pointer, str(it.error)) for it in Registry({"u:a": {"not": {"$ref": "u:b#/c"}, "items": {"$ref": "#/d"}}}).dangling()]
+        [('/items', "'#/d': Pointer '/d' does not exist"), ('/not', "'u:b#/c': Resource 'u:b' is not present in a registry and retrieving it failed: Retrieving external resources is not supported once the registry is populated")]
+        """
+
+        def listed(opened: _Opened) -> List[Dangling]:
+            told = [(it["document"], it["pointer"], it["error"]) for it in opened.ask("", "dangling")]
+            told += [(it.document, it.pointer, it.error) for it in opened.unmet if it.keyword == "$ref"]
+            told.sort(key=lambda it: it[:2])
+            documents = opened.documents
+            return [Dangling(documents[number], pointer, from_answer(error, _at(documents[number], pointer)["$ref"])) for number, pointer, error in told]
+
+        return self._as_one()._opened_as_far()._again(listed)
 
     def bundle(self, uri: str) -> Schema:
-        """A document with all others that it needs in it, as a new value."""
+        """A document with all others that it needs in it, as a new value. With `allow_missing` references to documents that aren't there stay as they are.
+
+        >>> Registry({"u:a": {"$ref": "u:b"}, "u:b": {"const": 1}}).bundle("u:a")
+        {'$defs': {'u:b': {'$id': 'u:b', 'const': 1}}, '$ref': 'u:b'}
+        """
 
         def bundled(opened: _Opened) -> Schema:
             try:
@@ -592,7 +707,14 @@ class Registry(Mapping[str, Resource]):
                 raise NoSuchResource(uri) from None
             if found["registry"] != opened.number or found["pointer"]:
                 raise NoSuchResource(uri)
-            return opened.ask(uri, "bundle", f',"document":{found["document"]}')["bundle"]
+            number = found["document"]
+            bundle = opened.ask(uri, "bundle", f',"document":{number}')["bundle"]
+            for it in opened.unmet:
+                document = bundle if it.document == number else _embedded(bundle, opened.uris[it.document])
+                # The identifier of an embedded document is the bundle's.
+                if document is not None and (it.document == number or it.pointer or it.keyword == "$ref"):
+                    _at(document, it.pointer)[it.keyword] = it.text
+            return bundle
 
         return self._as_one()._again(bundled)
 
@@ -616,14 +738,30 @@ class Registry(Mapping[str, Resource]):
                 return found
             registry = registry._parent
         try:
-            resolved = self.resolver(uri)._lookup("#", may_retrieve=False)
-        except Unresolvable:
+            resolved = self.resolver(uri.rstrip("#"))._lookup("#", may_retrieve=False)
+        except Unresolvable as error:
+            if error.document is not None:
+                # Another document can't be opened.
+                raise
             raise NoSuchResource(uri) from None
         return Resource(resolved.contents, resolved.specification)
 
     def __contains__(self, uri: object) -> bool:
-        own = uri.rstrip("#") if isinstance(uri, str) else uri
-        return own in self._documents or self._parent is not None and own in self._parent
+        """Whether a document or an identifier has this URI."""
+        if not isinstance(uri, str):
+            return False
+        if self._has_given(uri):
+            return True
+        try:
+            self[uri]
+        except (NoSuchResource, Unresolvable):
+            return False
+        return True
+
+    def _has_given(self, uri: str) -> bool:
+        """Whether a document was added under this URI."""
+        own = uri.rstrip("#")
+        return own in self._documents or self._parent is not None and self._parent._has_given(own)
 
     def __iter__(self) -> Iterator[str]:
         """The URIs that documents were added under."""
@@ -659,21 +797,37 @@ class Registry(Mapping[str, Resource]):
 
     def _evolved(self, documents: Dict[str, Resource], retrieved: Dict[str, Resource], parent: Optional["Registry"]) -> "Registry":
         new = type(self)((), self._retrieve, draft=self._draft, limit=self._limit, allow_missing=self._allow_missing, timeout=self._timeout)
-        new._documents, new._retrieved, new._base, new._parent = documents, retrieved, self._base, parent
+        new._documents, new._retrieved, new._base, new._parent, new._with_meta = documents, retrieved, self._base, parent, self._with_meta
         return new
+
+    def _opened_as_far(self) -> "Registry":
+        """This registry, opened; or where it can't be as a whole, the same with `allow_missing`: opened once as far as it goes, for all that ask."""
+        shared = self._tolerant or self
+        try:
+            shared._open()
+        except (Unretrievable, InvalidUri):
+            shared = self._evolved(self._all(), self._all_retrieved(), None)
+            shared._allow_missing, self._tolerant = True, shared
+            shared._open()
+        return shared
 
     def _with_root(self, resource: Resource) -> "Registry":
         """A registry with a document that has no URI, behind which this one stays open for the next."""
-        shared = self._tolerant or self
-        if self._documents:
-            try:
-                shared._open()
-            except (Unretrievable, InvalidUri):
-                # It is opened once as far as it goes, for all that are made from it.
-                shared = self._evolved(self._all(), self._all_retrieved(), None)
-                shared._allow_missing, self._tolerant = True, shared
-                shared._open()
-        return shared.with_resource("", resource)
+        return (self._opened_as_far() if self._documents else self._tolerant or self).with_resource("", resource)
+
+    def _adds_meta_schemas(self, uri: str) -> bool:
+        """Whether this is the URI of a meta-schema, and meta-schemas weren't wanted so far: then they are there from now on."""
+        chain: List[Registry] = []
+        below: Optional[Registry] = self
+        while below is not None:
+            chain.append(below)
+            below = below._parent if below._parent is not None else below._base
+        if not uri.startswith(_OF_DRAFTS) or chain[-1]._with_meta:
+            return False
+        chain[-1]._with_meta = True
+        for registry in chain:
+            registry._opened = None
+        return True
 
     def _all(self) -> Dict[str, Resource]:
         return {**(self._parent._all() if self._parent is not None else {}), **self._documents}
@@ -683,11 +837,7 @@ class Registry(Mapping[str, Resource]):
 
     def _as_one(self) -> "Registry":
         """This registry as one of the program's, with all documents that it needs."""
-        if self._parent is None and not self._allow_missing:
-            return self
-        new = self._evolved(self._all(), self._all_retrieved(), None)
-        new._allow_missing = False
-        return new
+        return self if self._parent is None else self._evolved(self._all(), self._all_retrieved(), None)
 
     def _is_open(self) -> bool:
         return self._opened is not None and not self._opened.process.ended
@@ -709,37 +859,67 @@ class Registry(Mapping[str, Resource]):
         return opened
 
     def _open_in(self, process: _process.Process) -> _Opened:
+        while True:
+            try:
+                return self._opened_in(process)
+            except _MetaWanted:
+                continue
+
+    def _opened_in(self, process: _process.Process) -> _Opened:
         below = self._parent if self._parent is not None else self._base
-        parent = below._open() if below is not None else _meta(process)
+        parent = below._open() if below is not None else _meta(process, self._with_meta)
         texts = {uri: _text(uri, resource) for uri, resource in self._documents.items()}
         retrieved = dict(self._retrieved)
         remote = {uri: _text(uri, resource) for uri, resource in retrieved.items()}
         head = self._members(parent)
         rounds = 0
+        # The documents that aren't there, and the faults of texts that are `null` in their place.
+        missing: Set[str] = set()
+        mended: List[Tuple[str, Dict[str, Any]]] = []
         while True:
-            answer = process.ask(_sent(f'{head},"documents":[{_listed(texts)}],"remote":[{_listed(remote)}]}}\n', texts, remote), self._timeout)
+            line = _sent(f'{head},"documents":[{_listed(texts)}],"remote":[{_listed(remote)}]}}\n', texts, remote)
+            answer = process.ask(line, self._timeout)
             if "error" not in answer:
                 break
             error = _at_place(from_answer(answer["error"], answer["error"].get("uri", "")), answer["error"], texts, remote)
-            if isinstance(error, InvalidUri) and self._allow_missing and self._are_mended(process, texts, remote):
-                continue
             if isinstance(error, CallRefused):
                 raise _refused(error, texts, remote)
+            if isinstance(error, InvalidUri) and self._allow_missing and self._mend(process, parent, texts, remote, missing, mended):
+                continue
             if not isinstance(error, Unretrievable) or error.uri is None or error.uri in remote:
                 raise error
+            if self._adds_meta_schemas(error.uri):
+                raise _MetaWanted
             if self._retrieve is None and not self._allow_missing:
                 raise error
-            retrieved[error.uri], remote[error.uri] = self._retrieved_or_missing(error)
+            found = None if error.uri in missing else self._retrieved_unless_missing(error)
+            if found is not None:
+                retrieved[error.uri], remote[error.uri] = found
+            else:
+                missing.add(error.uri)
+                if not self._mend(process, parent, texts, remote, missing, mended):
+                    retrieved[error.uri], remote[error.uri] = Resource(_MISSING), f'{{"$schema":"{self._draft.uri}"}}'
             rounds += 1
             if rounds == _ROUNDS:
-                self._retrieve_ahead(process, parent, texts, retrieved, remote)
+                self._retrieve_ahead(process, parent, texts, retrieved, remote, missing)
         result = answer["result"]
+        if not isinstance(result, dict) or not {"registry", "documents", "given"} <= result.keys():
+            raise ProgramNotFound(f"{process.program} answers by another protocol than this package asks by: install the program of the same version")
         documents = [retrieved[uri].contents if uri in retrieved else None for uri in result["documents"]]
         # Of those whose URIs mean the same the last takes the place of the others.
         for number, resource in zip(result["given"], self._documents.values()):
             documents[number] = resource.contents
-        opened = _Opened(process, result["registry"], documents, parent, self._timeout)
+        opened = _Opened(process, result["registry"], documents, parent, self._timeout, len(line))
+        opened.uris = result["documents"]
+        numbers = {**{uri: number for number, uri in enumerate(opened.uris)}, **dict(zip(texts, result["given"]))}
+        opened.unmet = [_Unmet(numbers[uri], it["pointer"], it["keyword"], it["text"], it["error"]) for uri, it in mended if uri in numbers]
         self._retrieved = {uri: resource for uri, resource in retrieved.items() if resource.contents is not _MISSING}
+        nulls = {it.document for it in opened.unmet if not it.pointer and it.keyword in ("$id", "id")}
+        resources = {**{number: retrieved[uri] for number, uri in enumerate(opened.uris) if uri in retrieved}, **dict(zip(result["given"], self._documents.values()))}
+        named = {number: resource.id(self._draft) for number, resource in resources.items() if number not in nulls}
+        opened.identify({number: text for number, text in named.items() if text})
+        # Also by the texts that the caller gave.
+        opened.identified.update({text: opened.identified[opened.uris[it]] for text, it in zip(texts, result["given"]) if opened.uris[it] in opened.identified})
         return opened
 
     def _faults(self, process: _process.Process, texts: Dict[str, str], remote: Dict[str, str]) -> Iterator[Tuple[str, Dict[str, Any]]]:
@@ -749,16 +929,28 @@ class Registry(Mapping[str, Resource]):
         uris = list(documents)
         return ((uris[it["document"]], it) for it in answer.get("result", []))
 
-    def _are_mended(self, process: _process.Process, texts: Dict[str, str], remote: Dict[str, str]) -> bool:
-        """Puts `null` in place of the texts that are no URI references, so that the program opens the other references and identifiers; whether there were any."""
+    def _mend(
+        self, process: _process.Process, parent: Optional[_Opened], texts: Dict[str, str], remote: Dict[str, str], missing: Set[str], mended: List[Tuple[str, Dict[str, Any]]]
+    ) -> bool:
+        """Puts `null` in place of the texts that are no URI references, and of the references to documents that are missing, so that the program opens the other references and
+        identifiers; whether there were any. Where nothing is retrieved, all are missing that the parents don't have."""
+        faults = list(self._faults(process, texts, remote))
+        if self._retrieve is None:
+            wanted = {it["error"]["uri"] for _, it in faults if it["error"]["name"] == "Unretrievable"} - missing
+            if any(self._adds_meta_schemas(uri) for uri in wanted):
+                raise _MetaWanted
+            missing |= wanted if parent is None else parent.without(wanted)
         faulty: Dict[str, List[Dict[str, Any]]] = {}
-        for uri, fault in self._faults(process, texts, remote):
-            if fault["error"]["name"] == "InvalidUri" and fault["keyword"] in ("$id", "id", "$ref", "$schema"):
+        for uri, fault in faults:
+            error, keyword = fault["error"], fault.get("keyword")
+            is_text = error["name"] == "InvalidUri" and keyword in ("$id", "id", "$ref", "$schema")
+            if is_text or error["name"] == "Unretrievable" and keyword == "$ref" and error["uri"] in missing:
                 faulty.setdefault(uri, []).append(fault)
-        for uri, faults in faulty.items():
+                mended.append((uri, fault))
+        for uri, those in faulty.items():
             among = texts if uri in texts else remote
             tree = json.loads(among[uri])
-            for fault in faults:
+            for fault in those:
                 _at(tree, fault["pointer"])[fault["keyword"]] = None
             among[uri] = _encode(tree)
         return bool(faulty)
@@ -773,7 +965,7 @@ class Registry(Mapping[str, Resource]):
         return members
 
     def _retrieve_ahead(
-        self, process: _process.Process, parent: Optional[_Opened], texts: Dict[str, str], retrieved: Dict[str, Resource], remote: Dict[str, str]
+        self, process: _process.Process, parent: Optional[_Opened], texts: Dict[str, str], retrieved: Dict[str, Resource], remote: Dict[str, str], missing: Set[str]
     ) -> None:
         """Retrieves what documents want, asking about each by itself, and then about what was retrieved. By `open` of all together each would be sent again for
         each that is retrieved. What can't be had is left to that `open`, which decides."""
@@ -794,12 +986,18 @@ class Registry(Mapping[str, Resource]):
             for uri, error in wanted.items():
                 if uri in known or len(remote) > most:
                     continue
+                if self._adds_meta_schemas(uri):
+                    raise _MetaWanted
                 known.add(uri)
                 try:
-                    retrieved[uri], remote[uri] = self._retrieved_or_missing(error)
+                    found = self._retrieved_unless_missing(error)
                 except Unretrievable:
                     continue
-                level[uri] = remote[uri]
+                if found is None:
+                    missing.add(uri)
+                else:
+                    retrieved[uri], remote[uri] = found
+                    level[uri] = remote[uri]
 
     def _wants(self, stubs: _Opened, uri: str, text: str) -> Tuple[Dict[str, Unretrievable], Set[str]]:
         """The documents that a document wants, beside those that there are stubs of, and the base URIs in it."""
@@ -828,15 +1026,24 @@ class Registry(Mapping[str, Resource]):
             raise error
         return _resource(given)
 
-    def _retrieved_or_missing(self, error: Unretrievable) -> Tuple[Resource, str]:
-        """What the caller's function retrieves, with its text; or where it may be missing, what stands in its place."""
+    def _retrieved_unless_missing(self, error: Unretrievable) -> Optional[Tuple[Resource, str]]:
+        """What the caller's function retrieves, with its text; or none where it isn't there and may be missing."""
         try:
             resource = self._asked_for(error)
         except Unretrievable:
             if not self._allow_missing:
                 raise
-            return Resource(_MISSING), f'{{"$schema":"{self._draft.uri}"}}'
+            return None
         return resource, _text(error.uri or "", resource)
+
+
+def _embedded(bundle: Schema, uri: str) -> Optional[Schema]:
+    """The document with a URI in a bundle."""
+    for keyword in ("$defs", "definitions"):
+        among = bundle.get(keyword) if isinstance(bundle, dict) else None
+        if isinstance(among, dict) and uri in among:
+            return among[uri]
+    return None
 
 
 class Retrieved(NamedTuple):
@@ -849,28 +1056,23 @@ class Retrieved(NamedTuple):
 class Resolved:
     """What a reference leads to: `contents`, the caller's own value, and `resolver`, which resolves the references that stand in it."""
 
-    __slots__ = ("contents", "_registry", "_answer")
+    __slots__ = ("contents", "resolver", "_draft")
 
-    def __init__(self, contents: Schema, registry: Registry, answer: Dict[str, Any]) -> None:
+    def __init__(self, contents: Schema, resolver: "Resolver", draft: str) -> None:
         self.contents = contents
-        self._registry = registry
-        self._answer = answer
-
-    @property
-    def resolver(self) -> "Resolver":
-        """The resolver at the value."""
-        return Resolver(self._registry, self._answer["base"], self._answer["scope"])
+        self.resolver = resolver
+        self._draft = draft
 
     @property
     def specification(self) -> Optional[Draft]:
         """The draft by which the value is read, or `None` for an unknown one."""
-        return _BY_NAME.get(self._answer["draft"])
+        return _BY_NAME.get(self._draft)
 
     def __eq__(self, other: object) -> bool:
         return isinstance(other, Resolved) and self.contents is other.contents and self.resolver == other.resolver
 
     def __hash__(self) -> int:
-        return hash((id(self.contents), self._answer["base"]))
+        return hash((id(self.contents), self.resolver._base_uri))
 
     def __repr__(self) -> str:
         return f"Resolved({self.contents!r}, {self.resolver!r})"
@@ -889,16 +1091,39 @@ class Dangling(NamedTuple):
         return _at(self.document, self.pointer)
 
 
+# An answer to a look-up: the value, the base there, the scope in front of the one that was asked with, and the draft.
+_Found = Tuple[Schema, str, Tuple[str, ...], str]
+
+
+def _fragment_of(ref: str) -> str:
+    """The fragment of a reference, as the program has it: what is after a `#` in front, or else after the last."""
+    at = 0 if ref[:1] == "#" else ref.rfind("#")
+    return "" if at < 0 else ref[at + 1 :]
+
+
+def _is_by_scope(ref: str) -> bool:
+    """Whether a reference may be to a dynamic anchor, whose meaning is by the whole scope: one with a fragment that is no JSON Pointer."""
+    if ref[:1] == "#":
+        return ref[1:2] not in ("", "/")
+    at = ref.rfind("#")
+    return at >= 0 and ref[at + 1 : at + 2] not in ("", "/")
+
+
+def _is_dynamic(found: Schema, ref: str) -> bool:
+    """Whether an anchor may be a dynamic one, where this schema was found under it."""
+    name = _fragment_of(ref)
+    return "%" in name or isinstance(found, dict) and found.get("$dynamicAnchor") == name
+
+
 class Resolver:
     """Looks references up from a base URI. It is made by a registry, and doesn't change."""
 
-    __slots__ = ("_registry", "_base_uri", "_scope", "_members")
+    __slots__ = ("_registry", "_base_uri", "_scope")
 
     def __init__(self, registry: Registry, base_uri: str, scope: Sequence[str]) -> None:
         self._registry = registry
         self._base_uri = base_uri
-        self._scope = scope
-        self._members: Optional[str] = None
+        self._scope = tuple(scope)
 
     @property
     def base_uri(self) -> str:
@@ -911,6 +1136,8 @@ class Resolver:
 
     def lookup(self, ref: str) -> Resolved:
         """Where a reference leads. Raises `Unresolvable`, or a class below it, where it finds nothing."""
+        if not isinstance(ref, str):
+            raise TypeError(f"A reference is a str; this is {type(ref).__name__}")
         return self._lookup(ref)
 
     @overload
@@ -927,6 +1154,9 @@ class Resolver:
         [True, {'b': True}]
         """
         refs = list(refs)
+        for ref in refs:
+            if not isinstance(ref, str):
+                raise TypeError(f"A reference is a str; this is {type(ref).__name__}")
         found: List[Any] = []
         # A longer list is asked in parts: the program answers one while its reader takes the one before.
         for start in range(0, len(refs), _MOST_AT_ONCE):
@@ -934,27 +1164,57 @@ class Resolver:
         return found
 
     def _looked_up(self, opened: _Opened, refs: List[str], return_exceptions: bool) -> List[Any]:
-        value, registry = opened.value, self._registry
-        found: List[Any] = []
-        for ref, answer in zip(refs, self._ask(opened, "lookup", ',"reference":' + _encode(refs))):
+        # What was looked up before isn't asked again.
+        kept, base, is_first = opened.kept, self._base_uri, not self._scope
+        found: List[Any] = [None] * len(refs)
+        left = []
+        for number, ref in enumerate(refs):
+            before = kept.get((base, ref, is_first))
+            if before is None:
+                left.append(number)
+            else:
+                found[number] = self._from(before)
+        if left:
+            asked = [refs[number] for number in left]
+            for number, it in zip(left, self._all_asked(opened, asked, return_exceptions)):
+                found[number] = it
+        return found
+
+    def _all_asked(self, opened: _Opened, refs: List[str], return_exceptions: bool) -> Iterator[Any]:
+        by_scope = [_is_by_scope(ref) for ref in refs]
+        value, identified, scope = opened.value, opened.identified, self._sent_scope(any(by_scope))
+        rest, is_first, base = self._rest(scope), not self._scope, self._base_uri
+        kept = opened.room_for(len(refs))
+        last_base, last_scope, last = None, None, self
+        for ref, may_be_dynamic, answer in zip(refs, by_scope, opened.ask("", "lookup", self._members(opened, scope) + ',"reference":' + _encode(refs))):
             try:
-                if "error" not in answer:
-                    found.append(Resolved(value(answer), registry, answer))
+                if "error" in answer:
+                    yield self._retried(ref, from_answer(answer["error"], ref))
+                elif identified and opened.uri_of(answer) in identified:
+                    yield self._found(opened, ref)
                 else:
-                    found.append(self._retried(ref, from_answer(answer["error"], ref)))
+                    contents = value(answer)
+                    if answer["base"] != last_base or answer["scope"] != last_scope:
+                        # Most of a list lead to places with the same base and scope.
+                        last_base, last_scope = answer["base"], answer["scope"]
+                        last = Resolver(self._registry, last_base, (*last_scope, *rest))
+                        in_front = tuple(last_scope[: len(last_scope) - len(scope)])
+                    if not may_be_dynamic or not _is_dynamic(contents, ref):
+                        kept[base, ref, is_first] = (contents, last_base, in_front, answer["draft"])
+                    yield Resolved(contents, last, answer["draft"])
             except Unresolvable as error:
                 if not return_exceptions:
                     raise
-                found.append(error)
-        return found
+                yield error
 
     def in_subresource(self, subresource: Any) -> "Resolver":
         """The resolver inside of a subschema, whose identifier changes the base URI where it has one. A schema without an identifier isn't sent."""
+        contents = getattr(subresource, "contents", subresource)
+        if not isinstance(contents, dict) or "$id" not in contents and "id" not in contents:
+            return self
         specification = getattr(subresource, "_specification", None)
         resource = _resource(subresource)
         contents = resource.contents
-        if not isinstance(contents, dict) or "$id" not in contents and "id" not in contents:
-            return self
         if specification is not None and resource.specification is None:
             return self
         # Nothing else of the schema matters to its identifier.
@@ -963,25 +1223,35 @@ class Resolver:
         if resource.specification is not None:
             members["$schema"] = draft.uri
         more = f',"draft":"{draft.name}","schema":{_encode(members)}'
+
+        def entered(opened: _Opened) -> str:
+            key = (self._base_uri, more, None)
+            base = opened.kept.get(key)
+            if base is None:
+                base = opened.ask("", "enter", self._members(opened, ()) + more)["base"]
+                opened.keep(key, base)
+            return base
+
         try:
-            answer = self._registry._again(lambda opened: self._ask(opened, "enter", more))
+            base = self._registry._again(entered)
         except InvalidUri:
             if not self._registry._allow_missing:
                 raise
             # An identifier that is no URI reference counts as none.
             return self
-        return Resolver(self._registry, answer["base"], answer["scope"])
+        return self if base == self._base_uri else Resolver(self._registry, base, self._scope)
 
     def lookup_recursive_ref(self) -> Resolved:
         """Where `$recursiveRef` leads, in 2019-09."""
+
         def found(opened: _Opened) -> Resolved:
-            answer = self._ask(opened, "recursive", ref="#")
-            return Resolved(opened.value(answer), self._registry, answer)
+            answer = opened.ask("#", "recursive", self._members(opened, self._scope))
+            return self._resolved(opened.value(answer), answer["base"], answer["scope"], answer["draft"])
 
         return self._registry._again(found)
 
     def __eq__(self, other: object) -> bool:
-        return isinstance(other, Resolver) and (self._registry, self._base_uri, list(self._scope)) == (other._registry, other._base_uri, list(other._scope))
+        return isinstance(other, Resolver) and (self._registry, self._base_uri, self._scope) == (other._registry, other._base_uri, other._scope)
 
     def __hash__(self) -> int:
         return hash((self._registry, self._base_uri))
@@ -989,31 +1259,81 @@ class Resolver:
     def __repr__(self) -> str:
         return f"<Resolver at {self._base_uri!r}>"
 
-    def _ask(self, opened: _Opened, call: str, more: str = "", ref: str = "") -> Any:
-        if self._members is None:
-            self._members = f',"base":{_encode(self._base_uri)},"scope":{_encode(self._scope)}'
-        return opened.ask(ref, call, self._members + more)
+    def _members(self, opened: _Opened, scope: Sequence[str]) -> str:
+        base = self._base_uri
+        return f',"base":{_encode(opened.identified.get(base, base))},"scope":{_encode(scope)}'
+
+    def _sent_scope(self, is_by_scope: bool) -> Tuple[str, ...]:
+        """As much of the scope as matters: all of it to a dynamic anchor; to others whether it is empty, so that the innermost is enough."""
+        return self._scope if is_by_scope else self._scope[:1]
+
+    def _rest(self, sent: Tuple[str, ...]) -> Tuple[str, ...]:
+        """What is behind the scope that was sent."""
+        return self._scope[len(sent) :]
+
+    def _resolved(self, contents: Schema, base: str, scope: Sequence[str], draft: str) -> Resolved:
+        return Resolved(contents, Resolver(self._registry, base, scope), draft)
+
+    def _found(self, opened: _Opened, ref: str) -> Resolved:
+        """Where a reference leads in the opened registry."""
+        is_by_scope, scope = _is_by_scope(ref), self._scope
+        key = (self._base_uri, ref, not scope)
+        found = opened.kept.get(key)
+        if found is None and is_by_scope and len(scope) <= _LONG_SCOPE:
+            found = opened.kept.get((self._base_uri, ref, scope))
+        if found is None:
+            sent = self._sent_scope(is_by_scope)
+            members = self._members(opened, sent)
+            answer = opened.ask(ref, "lookup", members + ',"reference":' + _encode(ref))
+            before = tuple(answer["scope"][: len(answer["scope"]) - len(sent)])
+            if opened.identified:
+                answer = self._identified(opened, ref, members, answer)
+            contents = opened.value(answer)
+            found = (contents, answer["base"], before, answer["draft"])
+            if not is_by_scope or not _is_dynamic(contents, ref):
+                opened.keep(key, found)
+            elif len(scope) <= _LONG_SCOPE:
+                opened.keep((self._base_uri, ref, scope), found)
+        return self._from(found)
+
+    def _from(self, found: _Found) -> Resolved:
+        """What was found, from here."""
+        contents, base, in_front, draft = found
+        return Resolved(contents, Resolver(self._registry, base, in_front + self._scope if in_front else self._scope), draft)
+
+    def _identified(self, opened: _Opened, ref: str, members: str, answer: Dict[str, Any]) -> Dict[str, Any]:
+        """The answer to a look-up, with the base that a document's own identifier gives (RFC 3986, 5.1.1 goes before 5.1.3), also where the reference names the document by the
+        URI that it was given under."""
+        fragment = _fragment_of(ref)
+        document = ref[: len(ref) - len(fragment)]
+        document = document[:-1] if document[-1:] == "#" else document
+        uri = opened.uri_of(answer)
+        if not document or uri not in opened.identified:
+            return answer
+        whole = answer if document == ref else opened.ask(ref, "lookup", members + ',"reference":' + _encode(document))
+        if whole["base"] != uri or whole["pointer"]:
+            return answer
+        return opened.ask(ref, "lookup", f',"base":{_encode(opened.identified[uri])},"scope":{_encode(self._scope)},"reference":{_encode("#" + fragment)}')
 
     def _lookup(self, ref: str, may_retrieve: bool = True) -> Resolved:
-        registry, more = self._registry, ',"reference":' + _encode(ref)
+        registry = self._registry
         try:
             try:
-                opened = registry._open()
-                answer = self._ask(opened, "lookup", more, ref)
+                return self._found(registry._open(), ref)
             except ProcessEnded:
                 # Asking changes nothing, so it is done once more, by another process.
                 registry._opened = None
-                opened = registry._open()
-                answer = self._ask(opened, "lookup", more, ref)
-            return Resolved(opened.value(answer), registry, answer)
+                return self._found(registry._open(), ref)
         except Unretrievable as error:
-            if not may_retrieve:
-                raise
-            return self._retried(ref, error)
+            return self._retried(ref, error, may_retrieve)
 
-    def _retried(self, ref: str, error: Exception) -> Resolved:
+    def _retried(self, ref: str, error: Exception, may_retrieve: bool = True) -> Resolved:
         """What a reference finds in a registry with the document that wasn't there, where it can be retrieved."""
-        if not isinstance(error, Unretrievable) or error.uri is None or self._registry._retrieve is None:
+        if not isinstance(error, Unretrievable) or error.uri is None:
+            raise error
+        if self._registry._adds_meta_schemas(error.uri):
+            return self._lookup(ref, may_retrieve)
+        if not may_retrieve or self._registry._retrieve is None:
             raise error
         registry = self._registry.with_resource(error.uri, self._registry._asked_for(error))
         return Resolver(registry, self._base_uri, self._scope)._lookup(ref, may_retrieve=False)

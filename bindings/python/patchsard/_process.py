@@ -10,11 +10,13 @@ import shutil
 import subprocess
 import threading
 import time
-from typing import Any, Deque, Dict, Optional
+from typing import Any, Deque, Dict, Optional, Tuple
 
 from patchsard.exceptions import CallTimedOut, ProcessEnded, ProgramNotFound
 
 _MOST = 1 << 16
+# As many bytes of documents of closed registries a process may hold for nothing, which is some twenty times that in memory.
+_MOST_HELD = 4 << 20
 # As json.loads, but for what it asks of a text that is known to be one line.
 _decoded = json.JSONDecoder().scan_once
 
@@ -52,6 +54,16 @@ def find_program() -> str:
     return found
 
 
+class Share:
+    """What a registry has of a process: the bytes of its documents, and whether others were opened behind it."""
+
+    __slots__ = ("size", "is_parent")
+
+    def __init__(self, size: int) -> None:
+        self.size = size
+        self.is_parent = False
+
+
 class Process:
     """A running `patchsard serve`."""
 
@@ -70,10 +82,19 @@ class Process:
         self._asking: Optional[int] = None
         # Whether a call was begun whose answer isn't read whole yet.
         self._is_amid = False
-        self._to_close: Deque[int] = collections.deque()
+        self._to_close: Deque[Tuple[int, Optional[Share]]] = collections.deque()
+        # The bytes of documents in registries that are open, and in closed ones: of those that were parents, which the program keeps, and of others. And how many are open.
+        self._open_bytes = self._kept_bytes = self._freed_bytes = 0
+        self._open_count = 0
+        self._to_count: Deque[int] = collections.deque()
         self.asked = False
         self.ended = False
         self.meta: Any = None
+
+    @property
+    def program(self) -> str:
+        """The path of the program."""
+        return self._program
 
     @property
     def pid(self) -> int:
@@ -112,17 +133,47 @@ class Process:
         finally:
             self._lock.release()
         try:
-            return _decoded(answer.decode("utf-8"), 0)[0]
+            decoded = _decoded(answer.decode("utf-8"), 0)[0]
         except (ValueError, StopIteration):
             raise ProcessEnded(f"{self._program} answers what is no JSON") from None
+        if not isinstance(decoded, dict) or "result" not in decoded and "error" not in decoded:
+            raise ProgramNotFound(f"{self._program} answers what is no answer of `patchsard serve`")
+        return decoded
 
-    def close_later(self, number: int) -> None:
+    def opened(self, size: int) -> Share:
+        """What a registry has that was opened, of so many bytes of documents."""
+        self._to_count.append(size)
+        return Share(size)
+
+    def _count(self) -> None:
+        """Counts what was opened; by the thread that has the lock."""
+        while self._to_count:
+            self._open_count += 1
+            self._open_bytes += self._to_count.popleft()
+
+    def end_if_worn(self) -> None:
+        """Ends it where it holds so much of closed parents that opening the open registries anew costs less, which are where they are used; unless it is asked now."""
+        if self._kept_bytes > max(_MOST_HELD, self._open_bytes) and not self._is_nested() and self._lock.acquire(blocking=False):
+            try:
+                if not self.ended:
+                    self._end()
+            finally:
+                self._lock.release()
+
+    def _is_idle(self) -> bool:
+        """Whether nothing is open but the meta-schemas, and much was: its memory goes back to the system if it ends."""
+        self._count()
+        return self._open_count == (1 if self.meta else 0) and self._freed_bytes + self._kept_bytes > _MOST_HELD
+
+    def close_later(self, number: int, share: Optional[Share] = None) -> None:
         """Closes a registry: now where nobody asks, else before the next call. Never waits for a lock, since the garbage collector calls it."""
-        self._to_close.append(number)
+        self._to_close.append((number, share))
         if not self.ended and not self._is_nested() and self._lock.acquire(blocking=False):
             before, self._asking = self._asking, threading.get_ident()
             try:
                 self._close_waiting()
+                if self._is_idle():
+                    self._end()
             except ProcessEnded:
                 pass
             finally:
@@ -130,8 +181,17 @@ class Process:
                 self._lock.release()
 
     def _close_waiting(self, until: Optional[float] = None) -> None:
+        self._count()
         while self._to_close:
-            self._exchange(b'{"call":"close","registry":%d}\n' % self._to_close.popleft(), until)
+            number, share = self._to_close.popleft()
+            if share is not None:
+                self._open_count -= 1
+                self._open_bytes -= share.size
+                if share.is_parent:
+                    self._kept_bytes += share.size
+                else:
+                    self._freed_bytes += share.size
+            self._exchange(b'{"call":"close","registry":%d}\n' % number, until)
 
     def _wait(self, file: int, event: int, until: Optional[float]) -> None:
         """Waits until a pipe can be read or written, or the time of a call is over."""
@@ -238,6 +298,8 @@ def shared() -> Process:
     """The process that all registries use; a new one where there is none, or it has ended."""
     global _shared
     with _starting:
+        if _shared is not None:
+            _shared.end_if_worn()
         if _shared is None or not _shared.is_alive():
             _shared = Process()
         return _shared

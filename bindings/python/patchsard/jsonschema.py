@@ -1,4 +1,8 @@
-"""The drafts of JSON Schema, and validators of Python's `jsonschema` whose references the program resolves."""
+"""The drafts of JSON Schema, and validators of Python's `jsonschema` whose references the program resolves.
+
+>>> SchemaRegistry is Registry, SchemaResource is Resource, len(EMPTY_REGISTRY)
+(True, True, 0)
+"""
 from __future__ import annotations
 
 from typing import Any, Callable, Iterator, NamedTuple, Optional, Tuple
@@ -15,7 +19,11 @@ EMPTY_REGISTRY = Registry()
 
 
 def specification_with(dialect_id: str, default: Optional[Draft] = None) -> Draft:
-    """The draft whose meta-schema has this URI; the default one where none has, or a `KeyError` without a default."""
+    """The draft whose meta-schema has this URI; the default one where none has, or a `KeyError` without a default.
+
+    >>> specification_with("http://json-schema.org/draft-07/schema").name
+    '7'
+    """
     found = _BY_URI.get(dialect_id.rstrip("#"), default)
     if found is None:
         raise KeyError(dialect_id)
@@ -23,7 +31,11 @@ def specification_with(dialect_id: str, default: Optional[Draft] = None) -> Draf
 
 
 def lookup_recursive_ref(resolver: Resolver) -> Resolved:
-    """Where `$recursiveRef` leads, in 2019-09."""
+    """Where `$recursiveRef` leads, in 2019-09.
+
+    >>> lookup_recursive_ref(Registry({"u:a": {"const": 1}}, draft=DRAFT201909).resolver("u:a")).contents
+    {'const': 1}
+    """
     return resolver.lookup_recursive_ref()
 
 

@@ -278,6 +278,40 @@ class OneProcess(unittest.TestCase):
         self.assertEqual([it for it in kinds if not issubclass(it, patchsard.PatchsardError)], [])
 
     @unittest.skipUnless(hasattr(os, "fork"), "no fork")
+    def test_what_closed_parents_held_is_given_back(self):
+        """A registry to which a document is added a hundred times: what the program holds of closed registries has a bound, and those that are open answer as before."""
+        other = registry().crawl()
+        seen = {}
+        with mock.patch.object(_process, "_MOST_HELD", 20000):
+            growing = Registry({f"https://example.com/{it}": {"$defs": {"text": {"const": "x" * 500}}} for it in range(10)}).crawl()
+            for it in range(10, 110):
+                growing = growing.with_resource(f"https://example.com/{it}", {"$defs": {"text": {"const": it}}})
+                self.assertEqual(growing.resolver(f"https://example.com/{it}").lookup("#/$defs/text").contents, {"const": it})
+                self.assertEqual(growing.resolver("https://example.com/3").lookup("#/$defs/text").contents["const"], "x" * 500)
+                self.assertEqual(other.resolver("https://example.com/a").lookup(f"#/$defs/{it % 50}").contents, {"const": it % 50})
+                process = _process.shared()
+                seen[process.pid] = process
+                self.assertLess(process._kept_bytes, 20000 + process._open_bytes + 20000)
+        self.assertGreater(len(seen), 2)
+        alive = [it for it in seen.values() if it._popen.poll() is None]
+        self.assertEqual(alive, [_process.shared()])
+
+    def test_a_program_that_held_much_ends_where_nothing_is_open(self):
+        with mock.patch.object(_process, "_MOST_HELD", 20000):
+            large = Registry({"u:a": {"$defs": {str(it): {"const": it} for it in range(3000)}}}).crawl()
+            process = _process.shared()
+            gc.collect()
+            with registry() as small:
+                self.assertEqual(small.resolver("https://example.com/a").lookup("#/$defs/1").contents, {"const": 1})
+            self.assertFalse(process.ended)
+            others = process._open_count - (1 if process.meta else 0) - 1
+            large.close()
+            self.assertEqual(process.ended, others == 0)
+            self.assertEqual(large.resolver("u:a").lookup("#/$defs/7").contents, {"const": 7})
+            if others == 0:
+                self.assertIsNotNone(process._popen.poll())
+                self.assertNotEqual(_process.shared().pid, process.pid)
+
     def test_a_fork_has_its_own(self):
         resolver = registry().resolver("https://example.com/a")
         resolver.lookup("#/$defs/1")
@@ -365,6 +399,19 @@ class WhereTheProgramIs(unittest.TestCase):
         with mock.patch.dict(os.environ, PATCHSARD="false"), mock.patch.object(_process, "_shared", None):
             with self.assertRaisesRegex(patchsard.ProcessEnded, "has ended, with status 1"):
                 registry().crawl()
+
+    def test_a_program_of_another_protocol(self):
+        for answer in ('{"result":{}}', '{"result":[]}', '{"result":{"registry":0}}', "{}", "[]", "null"):
+            with tempfile.TemporaryDirectory() as room:
+                path = os.path.join(room, "other")
+                with open(path, "w", encoding="utf-8") as file:
+                    file.write(f"#!/bin/sh\nwhile read -r line; do echo '{answer}'; done\n")
+                os.chmod(path, 0o755)
+                # (without the meta-schemas, which would be opened first)
+                with mock.patch.dict(os.environ, PATCHSARD=path), mock.patch.object(_process, "_shared", None), mock.patch.object(patchsard._core, "_meta_schemas", list):
+                    with self.assertRaisesRegex(patchsard.ProgramNotFound, "answers"):
+                        registry().crawl()
+                    _process.shared().stop()
 
 
 if __name__ == "__main__":

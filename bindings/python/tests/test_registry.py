@@ -1,13 +1,19 @@
 """What registries and resolvers answer."""
 import gc
+import importlib.util
+import os
+import subprocess
+import sys
 import unittest
 import urllib.parse
+from unittest import mock
 
 import patchsard
-from patchsard import Registry, Resource
+from patchsard import Registry, Resource, _process
 from patchsard.jsonschema import DRAFT4, DRAFT7, DRAFT201909, DRAFT202012, lookup_recursive_ref, specification_with
 
 BASE = "https://example.com/order"
+TOP = os.path.dirname(os.path.dirname(os.path.abspath(__file__)))
 
 
 def order():
@@ -158,6 +164,7 @@ class Registries(unittest.TestCase):
         with self.assertRaises(patchsard.NoInternalID):
             Resource({}) @ registry
         self.assertTrue("u:a#" in registry and "u:x" not in registry)
+        self.assertTrue("https://example.com/sub/part#" in Registry({BASE: order()}) and 1 not in registry)
         self.assertIs(patchsard.jsonschema.SchemaRegistry, Registry)
         self.assertEqual(len(patchsard.jsonschema.EMPTY_REGISTRY), 0)
         self.assertEqual(patchsard.__version__, "0.1.0")
@@ -166,6 +173,16 @@ class Registries(unittest.TestCase):
         for schema in ({"$id": "u:a", "type": "string"}, {"$ref": "#"}, {"type": "object", "properties": {}}):
             with self.assertRaisesRegex(TypeError, "each under a URI"):
                 Registry(schema)
+        resolver = Registry({"u:a": True}).resolver("u:a")
+        for wrong in (["#"], 1, None, b"#"):
+            with self.assertRaisesRegex(TypeError, "A reference is a str"):
+                resolver.lookup(wrong)
+            with self.assertRaisesRegex(TypeError, "A reference is a str"):
+                resolver.lookup_all(["#", wrong])
+        # Where another document can't be opened, that is said.
+        with self.assertRaises(patchsard.Unretrievable) as raised:
+            Registry({"u:a": True, "u:b": {"$ref": "u:c"}})["u:d"]
+        self.assertEqual(raised.exception.document, "u:b")
 
     def test_documents_behind_an_open_registry(self):
         documents = {f"https://example.com/{number}": {"const": number} for number in range(30)}
@@ -397,11 +414,55 @@ class Retrieval(unittest.TestCase):
         self.assertIs(resolver.lookup("#/$defs/a").contents, schema["$defs"]["a"])
         with self.assertRaises(patchsard.Unretrievable):
             resolver.lookup("nowhere")
-        with self.assertRaises(patchsard.Unresolvable):
-            resolver.lookup("nowhere#/x")
         self.assertIsInstance(resolver.lookup_all(["nowhere"], return_exceptions=True)[0], patchsard.Unretrievable)
-        with self.assertRaises(patchsard.Unretrievable):
-            registry.dangling()
+        ((document, pointer, error),) = registry.dangling()
+        self.assertIs(document, schema)
+        self.assertEqual((pointer, type(error), error.ref, error.uri), ("", patchsard.Unretrievable, "nowhere#/x", "https://example.com/nowhere"))
+
+    def test_a_missing_document_is_unretrievable_with_any_fragment(self):
+        schema = {"properties": {"p": {"$ref": "nowhere"}, "q": {"$ref": "nowhere#/x"}, "r": {"$ref": "nowhere#a"}, "s": {"$ref": "#/$defs/no"}}}
+        for options in ({}, {"retrieve": self.retrieve}, {"retrieve": self.files.get}):
+            registry = Registry({"https://example.com/a": schema, "https://example.com/other": {"$anchor": "n"}}, allow_missing=True, **options)
+            resolver = registry.resolver("https://example.com/a")
+            for ref in ("nowhere", "nowhere#", "nowhere#/x", "nowhere#a", "https://EXAMPLE.com/./nowhere#/y"):
+                with self.assertRaises(patchsard.Unretrievable) as raised:
+                    resolver.lookup(ref)
+                self.assertEqual(raised.exception.uri, "https://example.com/nowhere")
+                if not options:
+                    self.assertEqual(raised.exception.ref, ref)
+            self.assertEqual(resolver.lookup("other#n").contents, {"$anchor": "n"})
+
+    def test_many_that_are_missing(self):
+        """Every other document of a chain of 40 isn't there, with a function to retrieve and without."""
+        documents = {f"https://example.com/{number}": {"allOf": [{"$ref": str(number + 1)}, {"$ref": f"gone{number}#/x"}]} for number in range(40)}
+        del documents["https://example.com/20"]
+        wanted = sorted(["20", *(f"gone{number}#/x" for number in range(40) if number != 20), "40"])
+        for registry in (
+            Registry(documents, allow_missing=True),
+            Registry({"https://example.com/0": documents["https://example.com/0"]}, retrieve=documents.get, allow_missing=True),
+            Registry(documents),
+        ):
+            found = registry.dangling()
+            reached = wanted if registry._retrieve is None else sorted(["20", *(f"gone{number}#/x" for number in range(20))])
+            self.assertEqual(sorted(it.contents["$ref"] for it in found), reached)
+            self.assertEqual({type(it.error) for it in found}, {patchsard.Unretrievable})
+            for it in found:
+                self.assertEqual(it.error.ref, it.contents["$ref"])
+
+    def test_what_a_parent_has_is_not_missing(self):
+        parent = Registry({"https://example.com/p": {"$anchor": "n", "$defs": {"i": {"$id": "inner"}}}})
+        schema = {"allOf": [{"$ref": "p#n"}, {"$ref": "inner"}, {"$ref": "p#/no"}, {"$ref": "nowhere"}]}
+        registry = Registry({"https://example.com/a": schema}, parent=parent, allow_missing=True)
+        self.assertEqual([(it.pointer, type(it.error)) for it in registry.dangling()], [("/allOf/2", patchsard.PointerToNowhere), ("/allOf/3", patchsard.Unretrievable)])
+        self.assertEqual(registry.resolver("https://example.com/a").lookup("p#n").contents["$anchor"], "n")
+
+    def test_bundle_where_something_is_missing(self):
+        a = {"$id": "https://example.com/a", "allOf": [{"$ref": "b"}, {"$ref": "nowhere#/x"}, {"$ref": "c d"}]}
+        b = {"$id": "https://example.com/b", "not": {"$ref": "gone"}, "items": {"$id": "e f", "type": "null"}}
+        registry = Registry({"https://example.com/a": a, "https://example.com/b": b}, allow_missing=True)
+        self.assertEqual(registry.bundle("https://example.com/a"), {**a, "$defs": {"https://example.com/b": b}})
+        with self.assertRaises(patchsard.Unresolvable):
+            Registry({"https://example.com/a": a, "https://example.com/b": b}).bundle("https://example.com/a")
 
     def test_meta_schemas_that_are_wanted(self):
         dialect = {"$schema": DRAFT202012.uri, "$id": "https://example.com/dialect"}
@@ -446,6 +507,180 @@ class Retrieval(unittest.TestCase):
             chain.crawl()
         error = raised.exception
         self.assertEqual((error.uri, error.document, error.pointer), ("https://example.com/bxxx", "https://example.com/bxx", ""))
+
+
+class Identified(unittest.TestCase):
+    """A document whose identifier is another URI than the one that it was given under: the identifier is the base (RFC 3986, 5.1.1 goes before 5.1.3)."""
+
+    GIVEN, NAMED = "http://w/a/d1", "http://other/b/n"
+
+    def setUp(self):
+        self.document = {
+            "$id": self.NAMED,
+            "$anchor": "m",
+            "properties": {"p": {"$ref": "rel"}},
+            "$defs": {"x": {"$id": "sub/q", "$ref": "#/$defs/z", "$defs": {"z": {"$anchor": "k"}}}, "y": {"$dynamicAnchor": "n"}},
+        }
+        self.registry = Registry({self.GIVEN: self.document, "http://w/a/rel": {"const": "given"}, "http://other/b/rel": {"const": "named"}, "http://w/r": {"$ref": "a/d1"}})
+
+    def test_from_where_it_was_given(self):
+        for ref, base, pointer in (
+            ("a/d1", self.NAMED, ()),
+            ("a/d1#", self.NAMED, ()),
+            ("HTTP://w/a/d1#/$defs", self.NAMED, ("$defs",)),
+            ("a/d1#m", self.NAMED, ()),
+            ("a/d1#n", self.NAMED, ("$defs", "y")),
+            ("a/d1#/$defs/x", "http://other/b/sub/q", ("$defs", "x")),
+            ("http://other/b/sub/q", "http://other/b/sub/q", ("$defs", "x")),
+            ("http://other/b/sub/q#k", "http://other/b/sub/q", ("$defs", "x", "$defs", "z")),
+            (self.NAMED, self.NAMED, ()),
+        ):
+            value = self.document
+            for key in pointer:
+                value = value[key]
+            resolver = self.registry.resolver("http://w/r")
+            for found in (resolver.lookup(ref), resolver.lookup(ref), resolver.lookup_all([ref])[0]):
+                self.assertIs(found.contents, value, ref)
+                self.assertEqual((found.resolver.base_uri, [uri for uri, _ in found.resolver.dynamic_scope()]), (base, ["http://w/r"]), ref)
+        self.assertEqual(self.registry.resolver("http://w/r").lookup("a/d1#/$defs/x").resolver.lookup("#/$defs/z").contents, {"$anchor": "k"})
+        for uri in (self.GIVEN, "HTTP://w/a/./d1"):
+            self.assertEqual(Registry({uri: self.document, "http://other/b/rel": {"const": "named"}}).resolver(uri).lookup("rel").contents, {"const": "named"})
+
+    def test_behind_another(self):
+        above = Registry({"http://w/s": {"$ref": "a/d1#m"}}, parent=self.registry)
+        self.assertEqual(above.resolver("http://w/s").lookup("a/d1").resolver.lookup("rel").contents, {"const": "named"})
+
+    def test_dynamic_anchors(self):
+        document = {"$id": "http://w/n18", "not": {"$dynamicAnchor": "n"}}
+        found = Registry({"http://w/d1": document}).resolver("http://w/d1").lookup("n18#n")
+        self.assertIs(found.contents, document["not"])
+        self.assertEqual(found.resolver.base_uri, "http://w/n18")
+
+    def test_others_are_left(self):
+        """An identifier that another document has, a relative one that means the same URI, and one in an older draft that is an anchor."""
+        documents = {"u:a": {"$id": "u:b", "const": 1}, "u:b": {"const": 2}, "http://w/c": {"$id": "c", "const": 3}, "u:d": {"$schema": DRAFT7.uri, "$id": "#d", "const": 4}}
+        registry = Registry(documents)
+        for uri in documents:
+            found = registry.resolver("u:z").lookup(uri)
+            self.assertEqual((found.contents, found.resolver.base_uri), (documents[uri], uri))
+        self.assertEqual(registry._open().identified, {})
+
+
+class Asked(unittest.TestCase):
+    """Which calls the program gets."""
+
+    def setUp(self):
+        self.lines = []
+        exchange = _process.Process._exchange
+
+        def counted(process, line, until=None):
+            self.lines.append(line)
+            return exchange(process, line, until)
+
+        patch = mock.patch.object(_process.Process, "_exchange", counted)
+        patch.start()
+        self.addCleanup(patch.stop)
+
+    def calls(self, name):
+        return [line for line in self.lines if f'"call":"{name}"'.encode() in line]
+
+    def test_what_was_looked_up_is_not_asked_again(self):
+        document = {"$id": BASE, "$defs": {"a": {"$anchor": "n"}, "b": {"$id": "b", "$defs": {"c": True}}}}
+        resolver = Registry({BASE: document}).resolver(BASE)
+        for ref, value in (("#/$defs/a", document["$defs"]["a"]), ("#n", document["$defs"]["a"]), ("b#/$defs/c", True), ("#", document)):
+            for start in (resolver, resolver.lookup("#").resolver):
+                before = len(self.calls("lookup"))
+                for _ in range(3):
+                    self.assertIs(start.lookup(ref).contents, value)
+                self.assertLessEqual(len(self.calls("lookup")) - before, 1)
+        before = len(self.calls("lookup"))
+        found = resolver.lookup_all(["#/$defs/a", "#", "#n", "#/$defs/b", "#/$defs/a"])
+        self.assertEqual([it.contents for it in found], [document["$defs"]["a"], document, document["$defs"]["a"], document["$defs"]["b"], document["$defs"]["a"]])
+        self.assertEqual(resolver.lookup_all(["#/$defs/b", "#n", "#"]), [found[3], found[2], found[1]])
+        self.assertEqual(len(self.calls("lookup")), before + 1)
+        self.assertEqual(resolver.lookup("b").resolver.base_uri, "https://example.com/b")
+        for _ in range(3):
+            self.assertEqual(resolver.in_subresource({"$id": "x"}).base_uri, "https://example.com/x")
+        self.assertEqual(len(self.calls("enter")), 1)
+        for _ in range(2):
+            with self.assertRaises(patchsard.PointerToNowhere):
+                resolver.lookup("#/nowhere")
+
+    def test_dynamic_anchors_by_their_scope(self):
+        def list_of(name, kind):
+            return {"$id": f"https://example.com/{name}", "$ref": "list", "$defs": {"n": {"$dynamicAnchor": "n", "type": kind}}}
+
+        documents = {it["$id"]: it for it in (list_of("texts", "string"), list_of("numbers", "number"))}
+        documents["https://example.com/list"] = {"items": {"$dynamicRef": "#n"}, "$defs": {"n": {"$dynamicAnchor": "n"}}}
+        registry = Registry(documents)
+        for _ in range(3):
+            for name, kind in (("texts", "string"), ("numbers", "number"), ("texts", "string")):
+                inside = registry.resolver(f"https://example.com/{name}").lookup("list").resolver
+                self.assertEqual(inside.lookup("#n").contents["type"], kind)
+            self.assertNotIn("type", registry.resolver("https://example.com/list").lookup("#n").contents)
+
+    def test_deep_scopes(self):
+        """A resolver at a depth answers as the program does that is given all of its scope; a pointer is asked with the innermost of it alone."""
+        documents = {f"https://example.com/{it}": {"$defs": {"n": {"$dynamicAnchor": "n", "const": it}, "p": {"$anchor": "p"}, "i": {"$id": f"i{it}"}}} for it in range(40)}
+        registry = Registry(documents)
+        resolver = registry.resolver("https://example.com/0")
+        opened = registry._open()
+        for it in (*range(1, 40), 39, 38, 0):
+            for ref in (str(it), f"{it}#", f"{it}#/$defs/n", f"{it}#p", f"{it}#n", f"i{it}", "#/$defs/i", "#n", "", "#"):
+                found = resolver.lookup(ref)
+                answer = opened.ask(ref, "lookup", resolver._members(opened, resolver._scope) + f',"reference":"{ref}"')
+                self.assertIs(found.contents, opened.value(answer))
+                self.assertEqual((found.resolver.base_uri, [uri for uri, _ in found.resolver.dynamic_scope()]), (answer["base"], answer["scope"]))
+            (found,) = resolver.lookup_all([f"{it}#/$defs/n"])
+            self.assertEqual(found, resolver.lookup(f"{it}#/$defs/n"))
+            resolver = resolver.lookup(str(it)).resolver
+        self.assertGreater(len(resolver._scope), 39)
+        before = len(self.lines)
+        resolver.lookup("17#/$defs")
+        self.assertLess(len(self.lines[before]), 200)
+
+    def test_what_is_kept_has_an_end(self):
+        resolver = Registry({"u:a": {"$defs": {str(it): {"const": it} for it in range(200)}}}).resolver("u:a")
+        with mock.patch.object(patchsard._core, "_MOST_KEPT", 50):
+            for it in (*range(200), *range(200)):
+                self.assertEqual(resolver.lookup(f"#/$defs/{it}").contents, {"const": it})
+                self.assertLessEqual(len(resolver._registry._open().kept), 50)
+
+
+class MetaSchemas(unittest.TestCase):
+    """The drafts' meta-schemas are imported where they are asked."""
+
+    def done(self, code):
+        done = subprocess.run([sys.executable, "-B", "-c", code], cwd=TOP, stdin=subprocess.DEVNULL, stdout=subprocess.PIPE, stderr=subprocess.PIPE, check=False)
+        self.assertEqual((done.returncode, done.stderr), (0, b""))
+
+    def test_they_are_not_imported_for_others(self):
+        self.done(
+            "import sys, patchsard\n"
+            "schema = {'$schema': 'http://json-schema.org/draft-07/schema#', '$ref': '#/definitions/a', 'definitions': {'a': True}}\n"
+            "registry = patchsard.Registry({'u:a': schema})\n"
+            "assert registry.resolver('u:a').lookup('#/definitions/a').contents is True\n"
+            "assert registry.dangling() == []\n"
+            "assert 'jsonschema_specifications' not in sys.modules\n"
+        )
+
+    @unittest.skipUnless(importlib.util.find_spec("jsonschema_specifications"), "jsonschema-specifications isn't installed")
+    def test_they_are_there_where_they_are_wanted(self):
+        begin = "import sys, patchsard\nuri = 'https://json-schema.org/draft/2020-12/schema'\n"
+        for code in (
+            "found = patchsard.Registry({'u:a': True}).resolver('u:a').lookup(uri + '#/$id')\nassert found.contents == uri\n",
+            "found = patchsard.Registry({'u:a': {'$ref': uri}}).resolver('u:a').lookup(uri)\nassert found.contents['$id'] == uri\n",
+            "found = patchsard.Registry({'u:a': True}).resolver('u:a').lookup_all(['#', uri])\nassert found[1].contents['$id'] == uri\n",
+            "parent = patchsard.Registry({'u:p': True}).crawl()\nregistry = patchsard.Registry({'u:a': {'not': {'$ref': uri}}}, parent=parent, retrieve={}.__getitem__)\n"
+            "assert registry.resolver('u:a').lookup(uri).contents['$id'] == uri and registry.dangling() == []\n"
+            "assert registry.resolver('u:a').lookup('u:p').contents is True\n",
+            "registry = patchsard.Registry({'u:a': True}).crawl().with_resource('u:b', {'$ref': uri}).crawl()\nassert registry[uri].contents['$id'] == uri and registry['u:a'].contents is True\n",
+            "schema = {'allOf': [{'$ref': 'gone'}, {'$ref': 'https://json-schema.org/draft/2020-12/meta/core'}, {'$ref': uri}]}\n"
+            "assert [it.pointer for it in patchsard.Registry({'u:a': schema}).dangling()] == ['/allOf/0']\n",
+            "files = {**{f'u:{n}': {'$ref': f'u:{n + 1}'} for n in range(9)}, 'u:9': {'$ref': uri}}\nregistry = patchsard.Registry({'u:a': {'$ref': 'u:0'}}, retrieve=files.__getitem__)\n"
+            "assert registry.dangling() == [] and registry[uri].contents['$id'] == uri\n",
+        ):
+            self.done(begin + code + "assert 'jsonschema_specifications' in sys.modules\n")
 
 
 class Faults(unittest.TestCase):
@@ -513,6 +748,7 @@ class Faults(unittest.TestCase):
             Registry().with_yaml(BASE, "é: 1\nb:\n  ü: {c: 1, c: 2}\n")
         error = caught.exception
         self.assertEqual((error.reason, error.document, error.line, error.column), ("same-key", BASE, 3, 13))
+        self.assertIn("; ", str(error))
         self.assertIsInstance(error, patchsard.PatchsardError)
         with self.assertRaises(patchsard.NotYaml) as caught:
             patchsard.from_yaml("a: \ud800")

@@ -103,6 +103,14 @@ class Validators(unittest.TestCase):
         validator = validator_for({"$ref": "https://example.com/a#/$defs/n"}, registry=registry)
         self.assertEqual([validator.is_valid(it) for it in (None, 1)], [True, False])
 
+    def test_the_identifier_is_the_base(self):
+        """Files that are given under `file:` URIs, with identifiers of their own: references in them are taken against those."""
+        document = {"$id": "http://other/b/n", "$defs": {"x": {"$ref": "rel"}, "y": {"$id": "sub/q", "$ref": "#/$defs/z", "$defs": {"z": {"type": "integer"}}}}, "$ref": "rel"}
+        registry = Registry({"file:///a/d1": document, "file:///a/rel": {"type": "integer"}, "http://other/b/rel": {"type": "string"}})
+        for ref, decided in (("", [True, False]), ("#", [True, False]), ("#/$defs/x", [True, False]), ("#/$defs/y", [False, True])):
+            validator = validator_for({"$ref": "file:///a/d1" + ref}, registry=registry)
+            self.assertEqual([validator.is_valid(it) for it in ("a", 1)], decided, ref)
+
     def test_options(self):
         validator = validator_for({"format": "ipv4"}, format_checker=jsonschema.FormatChecker())
         self.assertEqual([validator.is_valid(it) for it in ("127.0.0.1", "127.0.0")], [True, False])
