@@ -1,7 +1,8 @@
 //! Lints, follows, bundles, lists and draws the references of folders of JSON Schema files. What may be
-//! on its command line is in `ref_command_line`. Each subcommand is in a file of its name: `serve` here, and the others in `ref_commands`.
+//! on its command line is in `ref_command_line`. Each subcommand is in a file of its name: `serve` and `lsp` here, and the others in `ref_commands`.
 #![tactic(auto)]
 
+mod lsp;
 mod serve;
 
 use clap::{ArgMatches, Error};
@@ -124,7 +125,7 @@ fn configuration_for(
         console::go_to(rt, folder)?;
     }
     match matches.subcommand() {
-        None | Some(("serve", _)) => Ok(None),
+        None | Some(("serve", _)) | Some(("lsp", _)) => Ok(None),
         Some((_, given)) => Ok(Some(find_configuration(rt, given)?)),
     }
 }
@@ -153,6 +154,7 @@ fn answer_words<'a>(
 // What is answered where no files are read.
 fn without_configuration(rt: &HostRuntime, matches: &ArgMatches<'_>) -> Result<u8, Stop> {
     match matches.subcommand() {
+        Some(("lsp", given)) => lsp::serve_editor(rt, given),
         Some(_) => serve::serve_calls(rt),
         None => without_subcommand(rt),
     }

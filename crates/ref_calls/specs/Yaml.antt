@@ -3,7 +3,7 @@ use Rattle.std.specs.Prelude.{◌≡◌, ◌≢◌, ◌≤◌, ℕ, List, [], �
 use Rattle.serde_json.specs.Data.{Data, string, array, object, Members, no_members, member}
 use Rattle.serde_json.specs.View.{items_of}
 use Rattle.serde_json.specs.Find.{get, as_str}
-use Rattle.ref_yaml.specs.Values.{IsYamlOf}
+use Rattle.ref_yaml.specs.Documents.{IsYamlOf}
 use Rattle.ref_definitions.specs.Results.{◌>>=◌}
 use Rattle.ref_calls.specs.Objects.{object_of, list_of}
 use Rattle.ref_calls.specs.Errors.{not_yaml, in_field, with_field, with_index}

@@ -11,15 +11,17 @@ enum Subcommand {
     Places,
     Graph,
     Serve,
+    Lsp,
 }
 
-const SUBCOMMANDS: [Subcommand; 6] = [
+const SUBCOMMANDS: [Subcommand; 7] = [
     Subcommand::Lint,
     Subcommand::Resolve,
     Subcommand::Bundle,
     Subcommand::Places,
     Subcommand::Graph,
     Subcommand::Serve,
+    Subcommand::Lsp,
 ];
 
 // What may be on a command line.
@@ -49,6 +51,7 @@ enum Word {
     Statistics,
     Format,
     Color,
+    Form,
     Language,
     Connected,
     Output,
@@ -89,7 +92,9 @@ const COLORS: &[&str] = &["auto", "always", "never"];
 
 const LEVELS: &[&str] = &["error", "warning", "note"];
 
-const DRAWINGS: &[&str] = &["mermaid", "dot"];
+const FORMS: &[&str] = &["text", "json"];
+
+const DRAWINGS: &[&str] = &["mermaid", "dot", "json"];
 
 const DRAFTS: &[&str] = &["4", "6", "7", "2019-09", "2020-12"];
 
@@ -146,6 +151,7 @@ fn name_of<'c>(subcommand: Subcommand) -> &'c str {
         Subcommand::Places => "places",
         Subcommand::Graph => "graph",
         Subcommand::Serve => "serve",
+        Subcommand::Lsp => "lsp",
     }
 }
 
@@ -161,6 +167,9 @@ fn about<'c>(subcommand: Subcommand) -> &'c str {
         Subcommand::Graph => "Draws which file refers to which, with what is broken in red",
         Subcommand::Serve => {
             "Answers calls of other programs: one JSON object a line in, one a line out"
+        }
+        Subcommand::Lsp => {
+            "Serves an editor: mistakes as they are typed, definitions, references, completion, over the Language Server Protocol"
         }
     }
 }
@@ -182,6 +191,9 @@ fn status_of<'c>(subcommand: Subcommand) -> &'c str {
         }
         Subcommand::Bundle => {
             "Exit status: 0 where the bundle is written, 1 where there is none, 2 where a path can't be read or written or the command line is wrong, 3 where the text that was made isn't that of the bundle."
+        }
+        Subcommand::Lsp => {
+            "docs/EDITORS.md says how editors are set up. The editor names the folders; what is left out, mapped and read by which draft is said here. Exit status: 0 after a shutdown, 1 without one, 2 where standard input or output fails, what is read is no frame, or the command line is wrong."
         }
         Subcommand::Serve => {
             "docs/PROTOCOL.md describes the calls. Exit status: 0 where standard input ends, 2 where it can't be read, standard output can't be written, or the command line is wrong."
@@ -225,6 +237,7 @@ fn words_of(subcommand: Subcommand) -> &'static [Word] {
             Word::Config,
             Word::NoConfig,
             Word::Yaml,
+            Word::Form,
             Word::Base,
             Word::Draft,
             Word::Map,
@@ -249,6 +262,7 @@ fn words_of(subcommand: Subcommand) -> &'static [Word] {
             Word::Config,
             Word::NoConfig,
             Word::Yaml,
+            Word::Form,
             Word::Base,
             Word::Draft,
             Word::Map,
@@ -267,6 +281,18 @@ fn words_of(subcommand: Subcommand) -> &'static [Word] {
             Word::Map,
         ],
         Subcommand::Serve => &[],
+        Subcommand::Lsp => &[
+            Word::Exclude,
+            Word::NoIgnore,
+            Word::Rule,
+            Word::Level,
+            Word::Config,
+            Word::NoConfig,
+            Word::Yaml,
+            Word::Base,
+            Word::Draft,
+            Word::Map,
+        ],
     }
 }
 
@@ -282,6 +308,7 @@ fn arg_of<'c>(alloc: Global, word: Word) -> Arg<'c> {
         Word::From => arg.default_value("").allow_hyphen_values(true),
         Word::Format => arg.value_parser(FORMATS),
         Word::Color => arg.value_parser(COLORS).default_value("auto"),
+        Word::Form => arg.value_parser(FORMS).default_value("text"),
         Word::Language => arg.value_parser(DRAWINGS).default_value("mermaid"),
         Word::Draft => arg.value_parser(DRAFTS),
         _ => arg,
@@ -458,11 +485,17 @@ fn row_of<'c>(word: Word) -> Row<'c> {
             Kind::Value,
             "Whether text has colours: auto is on a terminal, unless NO_COLOR is set",
         ),
+        Word::Form => named(
+            "format",
+            "FORMAT",
+            Kind::Value,
+            "Lines for people, or json: an object a line",
+        ),
         Word::Language => named(
             "format",
             "FORMAT",
             Kind::Value,
-            "The language of the drawing",
+            "The language of the drawing, or json: the files and their references as one object",
         ),
         Word::Connected => named(
             "connected",

@@ -43,6 +43,39 @@ pub fn find_configuration(rt: &HostRuntime, given: &ArgMatches<'_>) -> Result<Co
     }
 }
 
+/// The same, but that the next file named `patchsard.toml` is looked for in the folder at an absolute path or above it.
+pub fn find_configuration_from(
+    rt: &HostRuntime,
+    given: &ArgMatches<'_>,
+    folder: &str,
+) -> Result<Configured, Stop> {
+    if given.get_flag("no-config") || given.get_str("config").is_some() {
+        return find_configuration(rt, given);
+    }
+    match found_from(rt, folder)? {
+        Some(path) => read(rt, path),
+        None => Ok(without_file(rt.alloc())),
+    }
+}
+
+// The path of the file that is in a folder or next above it.
+fn found_from(rt: &HostRuntime, folder: &str) -> Result<Option<String>, Stop> {
+    let mut rest = folder.trim_end_matches('/');
+    for _ in 0..=folder.len() {
+        let path = format!(in rt.alloc(); "{rest}/{}", NAME)?;
+        match fs::metadata(rt, path.as_str()) {
+            Ok(data) if data.is_file() => return Ok(Some(path)),
+            Err(error) if error.kind() == io::ErrorKind::OutOfMemory => return Err(Stop::Memory),
+            _ => {}
+        }
+        rest = match rest.rsplit_once('/') {
+            Some((front, _)) => front,
+            None => return Ok(None),
+        };
+    }
+    Ok(None)
+}
+
 fn without_file(alloc: Global) -> Configured {
     Configured {
         configuration: Configuration::new(alloc),

@@ -9,7 +9,7 @@ pub mod options;
 mod said;
 pub mod stop;
 
-pub use configured::{Configured, find_configuration};
+pub use configured::{Configured, find_configuration, find_configuration_from};
 pub use console::Console;
 pub use options::Reading;
 pub use said::{say, say_failures, say_of};

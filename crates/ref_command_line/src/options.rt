@@ -34,13 +34,7 @@ pub fn reading_of<'a>(
         None => text_of(&configured.configuration.base),
     };
     if let Some(base) = base {
-        if !is_base(base) {
-            let _ = eprintln!(rt;
-                "patchsard: --base {}: not an absolute URI without query and fragment",
-                Plain(base)
-            );
-            return Err(Stop::Reported);
-        }
+        check_base(rt, base)?;
     }
     let draft = draft_of(given, configured);
     let file = given.get_str("file").unwrap_or("");
@@ -56,6 +50,35 @@ pub fn reading_of<'a>(
     })
 }
 
+// Stops where a text is no URI that files may be under, and says so on standard error.
+fn check_base(rt: &HostRuntime, base: &str) -> Result<(), Stop> {
+    if is_base(base) {
+        return Ok(());
+    }
+    let _ = eprintln!(rt;
+        "patchsard: --base {}: not an absolute URI without query and fragment",
+        Plain(base)
+    );
+    Err(Stop::Reported)
+}
+
+/// A copy of the URI that files are under, by the command line, or else by the configuration. What is wrong with it is said on standard error.
+pub fn base_of(
+    rt: &HostRuntime,
+    given: &ArgMatches<'_>,
+    configured: &Configured,
+) -> Result<Option<String>, Stop> {
+    let base = match given.get_str("base") {
+        Some(base) => String::from_str(rt.alloc(), base)?,
+        None => match &configured.configuration.base {
+            Some(base) => base.clone()?,
+            None => return Ok(None),
+        },
+    };
+    check_base(rt, base.as_str())?;
+    Ok(Some(base))
+}
+
 fn text_of(text: &Option<String>) -> Option<&str> {
     match text {
         Some(text) => Some(text.as_str()),
@@ -63,8 +86,8 @@ fn text_of(text: &Option<String>) -> Option<&str> {
     }
 }
 
-// The draft of files that name none.
-fn draft_of(given: &ArgMatches<'_>, configured: &Configured) -> Draft {
+/// The draft of files that name none, by the command line, or else by the configuration.
+pub fn draft_of(given: &ArgMatches<'_>, configured: &Configured) -> Draft {
     let name = match given.get_str("draft") {
         Some(name) => Some(name),
         None => text_of(&configured.configuration.draft),

@@ -157,7 +157,7 @@ fn list_all(
     rt: &HostRuntime,
     console: &mut Console<'_>,
     given: &ArgMatches<'_>,
-    listing: &mut Listing<'_>,
+    listing: &mut Listing,
     opened: &Opened<'_>,
 ) -> Result<Count, Stop> {
     let alloc = rt.alloc();
@@ -205,7 +205,7 @@ fn print(
     rt: &HostRuntime,
     opened: &Opened<'_>,
     console: &mut Console<'_>,
-    listing: &mut Listing<'_>,
+    listing: &mut Listing,
     describer: &mut Describer<'_, '_>,
     tally: &mut Tally<'_>,
 ) -> Result<(), Stop> {
@@ -222,7 +222,7 @@ fn print(
 fn counted<'m>(
     rt: &HostRuntime,
     opened: &Opened<'_>,
-    listing: &mut Listing<'_>,
+    listing: &mut Listing,
     describer: &mut Describer<'_, 'm>,
     place: usize,
     tally: &mut Tally<'_>,
@@ -254,7 +254,7 @@ fn print_each(
     rt: &HostRuntime,
     opened: &Opened<'_>,
     console: &mut Console<'_>,
-    listing: &mut Listing<'_>,
+    listing: &mut Listing,
     describer: &mut Describer<'_, '_>,
     tally: &mut Tally<'_>,
 ) -> Result<(), Stop> {
@@ -273,7 +273,7 @@ fn print_whole(
     rt: &HostRuntime,
     opened: &Opened<'_>,
     console: &mut Console<'_>,
-    listing: &mut Listing<'_>,
+    listing: &mut Listing,
     describer: &mut Describer<'_, '_>,
     tally: &mut Tally<'_>,
 ) -> Result<(), AllocError> {
@@ -319,7 +319,7 @@ fn keep<'m>(messages: &mut Vec<Message<'m>>, message: Message<'m>) -> Result<(),
 fn push_message(
     alloc: Global,
     console: &mut Console<'_>,
-    listing: &Listing<'_>,
+    listing: &Listing,
     message: &Message<'_>,
 ) -> Result<(), Stop> {
     match listing.form {
@@ -344,7 +344,7 @@ impl Tally<'_> {
     fn level_of(
         &mut self,
         opened: &Opened<'_>,
-        listing: &mut Listing<'_>,
+        listing: &mut Listing,
         describer: &Describer<'_, '_>,
         place: usize,
         message: &Message<'_>,

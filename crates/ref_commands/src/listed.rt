@@ -1,7 +1,7 @@
 //! What of findings is listed, and how.
-use crate::levels::Levels;
 use clap::ArgMatches;
 use ref_command_line::{Configured, Stop};
+use ref_levels::{Levels, is_listed, least_of};
 use ref_messages::{Color, Level, Plain};
 use ref_workspace::RULES;
 use std::alloc::{AllocError, Global};
@@ -30,13 +30,13 @@ pub enum Form {
 
 /// What is asked of the list of findings.
 #[derive(Drop)]
-pub struct Listing<'a> {
+pub struct Listing {
     /// How they are printed.
     pub form: Form,
     /// How parts of text are set off.
     pub color: Color,
     /// The levels that rules are set to.
-    pub levels: Levels<'a>,
+    pub levels: Levels,
     /// The least level that is printed.
     pub least: Level,
     /// How many warnings there may be, where that is asked for.
@@ -49,13 +49,13 @@ pub struct Listing<'a> {
     pub has_statistics: bool,
 }
 
-impl<'a> Listing<'a> {
+impl Listing {
     /// What a command line asks for. A rule that there isn't, or a number that is none, is said on standard error.
     pub fn of(
         rt: &HostRuntime,
-        given: &ArgMatches<'a>,
-        configured: &'a Configured,
-    ) -> Result<Listing<'a>, Stop> {
+        given: &ArgMatches<'_>,
+        configured: &Configured,
+    ) -> Result<Listing, Stop> {
         let levels = Levels::of(rt, given, configured)?;
         let most_warnings = match most_warnings_of(rt, given)? {
             Some(most) => Some(most),
@@ -80,16 +80,7 @@ impl<'a> Listing<'a> {
 
     /// Whether a finding of a level is printed.
     pub fn is_printed(&self, level: Level) -> bool {
-        rank(level) <= rank(self.least)
-    }
-}
-
-// The place of a level among them, the gravest first.
-fn rank(level: Level) -> u8 {
-    match level {
-        Level::Error => 0,
-        Level::Warning => 1,
-        Level::Note => 2,
+        is_listed(level, self.least)
     }
 }
 
@@ -131,19 +122,6 @@ fn is_dumb(rt: &HostRuntime) -> bool {
     match env::var(rt, "TERM") {
         Ok(value) => value.as_str() == "dumb",
         Err(_) => false,
-    }
-}
-
-fn least_of(given: &ArgMatches<'_>, configured: &Configured) -> Level {
-    let name = match (given.get_str("level"), &configured.configuration.level) {
-        (Some(name), _) => Some(name),
-        (None, Some(name)) => Some(name.as_str()),
-        (None, None) => None,
-    };
-    match name {
-        Some("error") => Level::Error,
-        Some("warning") => Level::Warning,
-        _ => Level::Note,
     }
 }
 

@@ -1,8 +1,9 @@
-//! The places of a document, a line each.
+//! The places of a document, a line each: as text for people, or as a JSON object.
+use crate::members::{push_site, push_text};
 use ref_descriptions::Version;
 use ref_draft::Draft;
 use ref_index::Place;
-use ref_messages::Plain;
+use ref_messages::{Plain, push_quoted};
 use ref_parts::pointer_of;
 use ref_positions::{Places, Position};
 use ref_workspace::pointer::place_of;
@@ -10,38 +11,110 @@ use ref_workspace::{DescribedPlace, Description, Document};
 use serde_json::Value;
 use std::alloc::{AllocError, Global};
 
-/// Adds a line for each of these places of a document: where it is, its draft, its base URI, its identifier and its
-/// anchors. Of a document without a value nothing is added.
-pub fn push_document(
-    alloc: Global,
-    out: &mut String,
-    document: &Document,
-    places: &[Place<'_>],
-) -> Result<(), AllocError> {
-    if document.value().is_none() {
-        return Ok(());
-    }
-    let mut asked = Places::new(alloc)?;
-    let pushed = push_located(alloc, out, document, places, &mut asked);
-    drop(asked);
-    pushed
+/// How places are listed.
+#[derive(Clone, Copy)]
+pub(crate) struct Listing {
+    pub alloc: Global,
+    /// Whether as JSON objects.
+    pub is_json: bool,
 }
 
-// Adds the lines, with what is asked for in the document.
-fn push_located(
-    alloc: Global,
-    out: &mut String,
-    document: &Document,
-    places: &[Place<'_>],
-    asked: &mut Places,
-) -> Result<(), AllocError> {
-    let numbers = numbers_of(alloc, asked, places)?;
-    let located = asked.locate(alloc, document.text.format, document.text.text.as_str())?;
-    for (place, number) in places.iter().zip(numbers.iter()) {
-        let position = located.value(*number);
-        push_place(alloc, out, document, place, position)?;
+impl Listing {
+    /// Adds a line for each of these places of a document: where it is, its draft, its base URI, its identifier and its
+    /// anchors. Of a document without a value nothing is added.
+    pub fn push_document(
+        self,
+        out: &mut String,
+        document: &Document,
+        places: &[Place<'_>],
+    ) -> Result<(), AllocError> {
+        if document.value().is_none() {
+            return Ok(());
+        }
+        let mut asked = Places::new(self.alloc)?;
+        let pushed = self.push_located(out, document, places, &mut asked);
+        drop(asked);
+        pushed
     }
-    Ok(())
+
+    // Adds the lines, with what is asked for in the document.
+    fn push_located(
+        self,
+        out: &mut String,
+        document: &Document,
+        places: &[Place<'_>],
+        asked: &mut Places,
+    ) -> Result<(), AllocError> {
+        let numbers = numbers_of(self.alloc, asked, places)?;
+        let text = document.text.text.as_str();
+        let located = asked.locate(self.alloc, document.text.format, text)?;
+        for (place, number) in places.iter().zip(numbers.iter()) {
+            let at = line_and_column(located.value(*number));
+            if self.is_json {
+                push_place_object(self.alloc, out, document, place, at)?;
+            } else {
+                push_place(self.alloc, out, document, place, at)?;
+            }
+        }
+        Ok(())
+    }
+
+    /// Adds a line for each place that descriptions have in a document, whose number is given: where it is, what it is, by which version, and its
+    /// base URI.
+    pub fn push_described(
+        self,
+        out: &mut String,
+        document: &Document,
+        number: usize,
+        description: &Description<'_>,
+    ) -> Result<(), AllocError> {
+        let mut asked = Places::new(self.alloc)?;
+        let pushed = self.push_all_described(out, document, number, description, &mut asked);
+        drop(asked);
+        pushed
+    }
+
+    fn push_all_described(
+        self,
+        out: &mut String,
+        document: &Document,
+        number: usize,
+        description: &Description<'_>,
+        asked: &mut Places,
+    ) -> Result<(), AllocError> {
+        let mut numbers = Vec::new(self.alloc);
+        for place in &description.places {
+            if place.document == number {
+                numbers.push(place_of(asked, place.path.as_slice())?)?;
+            }
+        }
+        if numbers.is_empty() {
+            return Ok(());
+        }
+        let text = document.text.text.as_str();
+        let located = asked.locate(self.alloc, document.text.format, text)?;
+        let own = description
+            .places
+            .iter()
+            .filter(|place| place.document == number);
+        for (place, number) in own.zip(numbers.iter()) {
+            let at = line_and_column(located.value(*number));
+            if self.is_json {
+                push_described_object(self.alloc, out, document, place, at)?;
+            } else {
+                push_described_place(self.alloc, out, document, place, at)?;
+            }
+        }
+        Ok(())
+    }
+}
+
+// Where a place is, or the beginning of the file.
+fn line_and_column(position: Option<Position<'_>>) -> (usize, usize) {
+    match position {
+        Some(position) => (position.line(), position.column()),
+        None => (1, 1),
+    }
 }
 
 fn numbers_of(
@@ -61,12 +134,8 @@ fn push_place(
     out: &mut String,
     document: &Document,
     place: &Place<'_>,
-    position: Option<Position<'_>>,
+    (line, column): (usize, usize),
 ) -> Result<(), AllocError> {
-    let (line, column) = match position {
-        Some(position) => (position.line(), position.column()),
-        None => (1, 1),
-    };
     let pointer = pointer_of(alloc, place.path.as_slice())?;
     let file = Plain(document.name.as_str());
     let draft = place.draft.name();
@@ -80,47 +149,39 @@ fn push_place(
     out.push('\n')
 }
 
-/// Adds a line for each place that descriptions have in a document, whose number is given: where it is, what it is, by which version, and its
-/// base URI.
-pub fn push_described(
+// The same as an object: `draft`, `base`, and `id` and `anchors` where there are some.
+fn push_place_object(
     alloc: Global,
     out: &mut String,
     document: &Document,
-    number: usize,
-    description: &Description<'_>,
+    place: &Place<'_>,
+    at: (usize, usize),
 ) -> Result<(), AllocError> {
-    let mut asked = Places::new(alloc)?;
-    let pushed = push_all_described(alloc, out, document, number, description, &mut asked);
-    drop(asked);
-    pushed
-}
-
-fn push_all_described(
-    alloc: Global,
-    out: &mut String,
-    document: &Document,
-    number: usize,
-    description: &Description<'_>,
-    asked: &mut Places,
-) -> Result<(), AllocError> {
-    let mut numbers = Vec::new(alloc);
-    for place in &description.places {
-        if place.document == number {
-            numbers.push(place_of(asked, place.path.as_slice())?)?;
-        }
+    let pointer = pointer_of(alloc, place.path.as_slice())?;
+    push_site(
+        alloc,
+        out,
+        document.name.as_str(),
+        Some(at),
+        pointer.as_str(),
+    )?;
+    push_text(alloc, out, ",\"kind\":", "schema")?;
+    push_text(alloc, out, ",\"draft\":", place.draft.name())?;
+    push_text(alloc, out, ",\"base\":", place.base.as_str())?;
+    if let Some(id) = place
+        .value
+        .get(place.draft.id_keyword())
+        .and_then(Value::as_str)
+    {
+        push_text(alloc, out, ",\"id\":", id)?;
     }
-    if numbers.is_empty() {
-        return Ok(());
+    let mut is_first = true;
+    for anchor in place.draft.anchors(place.value) {
+        out.push_str(if is_first { ",\"anchors\":[" } else { "," })?;
+        push_quoted(alloc, out, anchor.name())?;
+        is_first = false;
     }
-    let located = asked.locate(alloc, document.text.format, document.text.text.as_str())?;
-    let own = description
-        .places
-        .iter()
-        .filter(|place| place.document == number);
-    for (place, number) in own.zip(numbers.iter()) {
-        push_described_place(alloc, out, document, place, located.value(*number))?;
-    }
-    Ok(())
+    out.push_str(if is_first { "}\n" } else { "]}\n" })
 }
 
 fn push_described_place(
@@ -128,12 +189,8 @@ fn push_described_place(
     out: &mut String,
     document: &Document,
     place: &DescribedPlace<'_>,
-    position: Option<Position<'_>>,
+    (line, column): (usize, usize),
 ) -> Result<(), AllocError> {
-    let (line, column) = match position {
-        Some(position) => (position.line(), position.column()),
-        None => (1, 1),
-    };
     let pointer = pointer_of(alloc, place.path.as_slice())?;
     let file = Plain(document.name.as_str());
     let kind = place.reading.kind.name();
@@ -149,6 +206,33 @@ fn push_described_place(
         write!(out, " draft {}", place.reading.draft.name())?;
     }
     write!(out, " base {}\n", place.base.as_str())
+}
+
+// The same as an object: `kind`, `version` and `draft` where it has one, and `base`.
+fn push_described_object(
+    alloc: Global,
+    out: &mut String,
+    document: &Document,
+    place: &DescribedPlace<'_>,
+    at: (usize, usize),
+) -> Result<(), AllocError> {
+    let pointer = pointer_of(alloc, place.path.as_slice())?;
+    push_site(
+        alloc,
+        out,
+        document.name.as_str(),
+        Some(at),
+        pointer.as_str(),
+    )?;
+    push_text(alloc, out, ",\"kind\":", place.reading.kind.name())?;
+    if let Some(version) = place.reading.version {
+        push_text(alloc, out, ",\"version\":", version_name(version))?;
+    }
+    if place.reading.is_by_draft() {
+        push_text(alloc, out, ",\"draft\":", place.reading.draft.name())?;
+    }
+    push_text(alloc, out, ",\"base\":", place.base.as_str())?;
+    out.push_str("}\n")
 }
 
 /// The name of a version.

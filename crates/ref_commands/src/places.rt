@@ -1,6 +1,7 @@
 //! `patchsard places`.
 
-use crate::listing::{push_described, push_document};
+use crate::listing::Listing;
+use crate::members::is_json;
 use crate::opened::{open_given, reported};
 use clap::ArgMatches;
 use ref_command_line::{Configured, Console, Stop, say_of};
@@ -8,7 +9,6 @@ use ref_files::Format;
 use ref_index::Place;
 use ref_workspace::world::world_of;
 use ref_workspace::{Description, Document, Workspace, World};
-use std::alloc::Global;
 
 /// Lists each subschema of files. The status is 0, 1 where a file has no places for a fault of its own, and 2 where a
 /// path couldn't be read.
@@ -19,19 +19,28 @@ pub fn places<'a>(
     configured: &'a Configured,
 ) -> Result<u8, Stop> {
     let opened = open_given(rt, given, configured)?;
-    let status = listed(rt, console, &opened.workspace);
+    let listing = Listing {
+        alloc: rt.alloc(),
+        is_json: is_json(given),
+    };
+    let status = listed(rt, console, &opened.workspace, listing);
     let has_failed = opened.has_failed;
     drop(opened);
     let status = status?;
     Ok(if has_failed { 2 } else { status })
 }
 
-fn listed(rt: &HostRuntime, console: &mut Console<'_>, workspace: &Workspace) -> Result<u8, Stop> {
+fn listed(
+    rt: &HostRuntime,
+    console: &mut Console<'_>,
+    workspace: &Workspace,
+    listing: Listing,
+) -> Result<u8, Stop> {
     let alloc = rt.alloc();
     let trees = workspace.mended(alloc)?;
     let world = reported(rt, world_of(alloc, workspace, trees.as_slice()))?;
     let documents = workspace.documents();
-    list_all(alloc, console, workspace, &world)?;
+    list_all(listing, console, workspace, &world)?;
     Ok(report_left_out(rt, documents))
 }
 
@@ -52,22 +61,22 @@ fn report_left_out(rt: &HostRuntime, documents: &[Document]) -> u8 {
 }
 
 fn list_all(
-    alloc: Global,
+    listing: Listing,
     console: &mut Console<'_>,
     workspace: &Workspace,
     world: &World<'_>,
 ) -> Result<(), Stop> {
-    let description = workspace.description(alloc, true)?;
-    let places = world.places(alloc)?;
+    let description = workspace.description(listing.alloc, true)?;
+    let places = world.places(listing.alloc)?;
     let mut rest = places.as_slice();
     for (number, source) in world.sources.iter().enumerate() {
         let count = count_of(rest, number);
         if let Some(document) = workspace.documents().get(*source) {
             let own = rest.get(..count).unwrap_or(rest);
             if !is_described(&description, *source) {
-                push_document(alloc, &mut console.out, document, own)?;
+                listing.push_document(&mut console.out, document, own)?;
             }
-            push_described(alloc, &mut console.out, document, *source, &description)?;
+            listing.push_described(&mut console.out, document, *source, &description)?;
             console.pass()?;
         }
         rest = rest.get(count..).unwrap_or(&[]);

@@ -13,7 +13,7 @@ pub fn print_configured<'a>(
     console: &mut Console<'_>,
     given: &ArgMatches<'a>,
     configured: &'a Configured,
-    listing: &Listing<'_>,
+    listing: &Listing,
 ) -> Result<u8, Stop> {
     let reading = reading_of(rt, given, configured)?;
     let out = &mut console.out;

@@ -1,8 +1,9 @@
 //! `patchsard resolve`.
 use crate::beside::beside;
 use crate::left_out::say_fault;
+use crate::members::is_json;
 use crate::opened::{Opened, open_file, reported};
-use crate::shown::push_found;
+use crate::shown::{push_found, push_found_object};
 use clap::ArgMatches;
 use ref_command_line::{Configured, Console, Stop, say_of};
 use ref_error::Error;
@@ -75,6 +76,7 @@ fn resolve_opened(
         document,
         from: given.get_str("from").unwrap_or(""),
         reference: given.get_str("reference").unwrap_or(""),
+        is_json: is_json(given),
     };
     asked.resolve(console, &world)
 }
@@ -87,6 +89,7 @@ struct Asked<'r, 'm> {
     document: &'r Document,
     from: &'r str,
     reference: &'r str,
+    is_json: bool,
 }
 
 impl Asked<'_, '_> {
@@ -121,7 +124,11 @@ impl Asked<'_, '_> {
         match outcome {
             Outcome::Found(found) => {
                 let workspace = &self.opened.workspace;
-                push_found(self.rt.alloc(), &mut console.out, workspace, world, found)?;
+                if self.is_json {
+                    push_found_object(self.rt.alloc(), &mut console.out, workspace, world, found)?;
+                } else {
+                    push_found(self.rt.alloc(), &mut console.out, workspace, world, found)?;
+                }
                 return Ok(0);
             }
             Outcome::Missing(uri) => self.say_missing(uri)?,

@@ -1,8 +1,9 @@
 //! What a reference leads to, as it is printed.
 use crate::listing::version_name;
+use crate::members::{push_site, push_text};
 use ref_command_line::Stop;
 use ref_draft::Draft;
-use ref_messages::{Plain, push_json};
+use ref_messages::{Plain, push_json, push_quoted};
 use ref_parts::{pointer_of, value_at};
 use ref_workspace::follow::Found;
 use ref_workspace::pointer::{path_to, position};
@@ -27,6 +28,49 @@ pub fn push_found(
     push_kind(alloc, out, workspace, number, found.pointer.as_str())?;
     push_scope(out, found.draft, &found.resolver)?;
     Ok(())
+}
+
+/// Adds the same as an object on a line: `file`, `line`, `column`, `pointer`, `kind` and `version` in a description, `draft`, `base`, `scope`, inner to
+/// outer, and `value`.
+pub fn push_found_object(
+    alloc: Global,
+    out: &mut String,
+    workspace: &Workspace,
+    world: &World<'_>,
+    found: &Found<'_>,
+) -> Result<(), Stop> {
+    let number = world.sources.get(found.document).copied().unwrap_or(0);
+    let pointer = found.pointer.as_str();
+    let at = place_in(alloc, workspace.documents().get(number), pointer)?;
+    push_site(alloc, out, workspace.name(number), at, pointer)?;
+    if let Some((kind, version)) = kind_at(alloc, workspace, number, pointer)? {
+        push_text(alloc, out, ",\"kind\":", kind)?;
+        push_text(alloc, out, ",\"version\":", version)?;
+    }
+    push_text(alloc, out, ",\"draft\":", found.draft.name())?;
+    push_text(alloc, out, ",\"base\":", found.resolver.base_uri().as_str())?;
+    push_scope_list(alloc, out, &found.resolver)?;
+    let own = own_value(alloc, workspace.value(number), pointer)?;
+    let text = own.unwrap_or(found.value).to_string(alloc)?;
+    out.push_str(",\"value\":")?;
+    push_json(out, text.as_str())?;
+    out.push_str("}\n")?;
+    Ok(())
+}
+
+fn push_scope_list(
+    alloc: Global,
+    out: &mut String,
+    resolver: &Resolver<'_>,
+) -> Result<(), AllocError> {
+    out.push_str(",\"scope\":")?;
+    let mut is_first = true;
+    for uri in resolver.dynamic_scope().iter() {
+        out.push(if is_first { '[' } else { ',' })?;
+        push_quoted(alloc, out, uri.as_str())?;
+        is_first = false;
+    }
+    out.push_str(if is_first { "[]" } else { "]" })
 }
 
 // The value at a pointer of a document as its file has it: what is read has `null` in place of a text that means no URI.
@@ -59,17 +103,29 @@ fn push_kind(
     number: usize,
     pointer: &str,
 ) -> Result<(), AllocError> {
+    match kind_at(alloc, workspace, number, pointer)? {
+        Some((kind, version)) => write!(out, "kind {kind} {version}\n"),
+        None => Ok(()),
+    }
+}
+
+// What an object of a description is, and by which version.
+fn kind_at(
+    alloc: Global,
+    workspace: &Workspace,
+    number: usize,
+    pointer: &str,
+) -> Result<Option<(&'static str, &'static str)>, AllocError> {
     let description = workspace.description(alloc, false)?;
     for place in &description.places {
         let here = pointer_of(alloc, place.path.as_slice())?;
         if place.document == number && here.as_str() == pointer {
             if let Some(version) = place.reading.version {
-                let kind = place.reading.kind.name();
-                return write!(out, "kind {kind} {}\n", version_name(version));
+                return Ok(Some((place.reading.kind.name(), version_name(version))));
             }
         }
     }
-    Ok(())
+    Ok(None)
 }
 
 fn push_scope(out: &mut String, draft: Draft, resolver: &Resolver<'_>) -> Result<(), AllocError> {

@@ -1,4 +1,5 @@
 pub mod Counted
+pub mod Derivations
 pub mod Indexes
 pub mod Paths
 pub mod Spots

@@ -2,23 +2,27 @@
 use Rattle.std.proofs.Common.{◌≡◌, ℕ, ◌+◌, List, [], ◌∷◌, ◌++◌, Option, length, zero, suc, refl, ap, sym, ◌∙◌, arith, replicate, None, Some, get_or}
 use Rattle.std.proofs.lemmas.Grind.{common_steps}
 use Rattle.std.proofs.lemmas.List.{append_assoc}
+use Rattle.std.proofs.lemmas.List.Elements.{All-head, All-tail}
 use Rattle.std.proofs.lemmas.List.Sums.{fold-append}
 use Rattle.ref_positions.specs.Paths.{Path}
 use Rattle.ref_positions.specs.Parts.{Token, Next, next, Part, begun, parts, passed}
-use Rattle.std.proofs.Common.{◌<◌, ◌≤◌, ◌-◌, ◌^◌, take, Bool, true, false, IsTrue, IsSome, is_some, subst}
+use Rattle.std.proofs.Common.{◌<◌, ◌≤◌, ◌-◌, ◌^◌, take, Bool, true, false, IsTrue, IsSome, is_some, subst, slice_get, IsUtf8, All}
 use Rattle.ref_positions.specs.Parts.{value, name, nothing, key, object, array, scalar, close}
 use Rattle.ref_positions.specs.Paths.{member, number_of}
 use Rattle.ref_positions.specs.Places.{IsTree}
 use Rattle.ref_positions.specs.Walks.{IsWalk, IsComing, IsTable, AreOpen, Passes, IsOtherKey, is_asked, has_number, IsCounted}
-use Rattle.ref_positions.specs.Events.{IsTokenOf, IsScalarOf, IsAsked, AreTokens, Takes, ArePassed, AreFoundIn}
+use Rattle.ref_positions.specs.Events.{IsTokenOf, IsScalarOf, IsAsked, AreTokens, Takes, ArePassed, AreFoundIn, Stops, HasUnnamed}
 use Rattle.ref_positions.specs.declared.walk.Found.{Found}
 use Rattle.ref_positions.specs.declared.walk.Level.{Level}
 use Rattle.ref_positions.specs.declared.walk.Walk.{Walk}
 use Rattle.ref_positions.specs.declared.walk.Coming.{Coming}
 use Rattle.ref_positions.specs.declared.walk.Coming.TheVariants.{Value, Key, Nothing}
 use Rattle.ref_positions.proofs.Walks.{stays, few_more, other_member, key_table, cons_nil, false_true}
-use Rattle.ref_yaml.specs.Events.{is_scalar}
-use Rattle.ref_yaml.specs.Values.{IsText}
+use Rattle.ref_yaml.specs.Events.{is_scalar, IsWithin}
+use Rattle.ref_yaml.specs.Values.{IsText, IsTextStop}
+use Rattle.ref_yaml.specs.declared.fault.Fault.{Fault}
+use Rattle.ref_yaml.specs.declared.fault.Stop.{Stop}
+use Rattle.ref_yaml.specs.declared.fault.Stop.TheVariants.{At}
 use Rattle.ref_yaml.specs.declared.event.Event.{Event}
 use Rattle.ref_yaml.specs.declared.event.Kind.{Kind}
 use Rattle.ref_yaml.specs.declared.event.Kind.TheVariants.{BeginArray, EndArray, BeginObject, EndObject, Plain, SingleQuoted, DoubleQuoted, Literal, Folded, Alias}
@@ -148,3 +152,40 @@ take_all [] zero h = refl
 take_all [] (suc n) h = refl
 take_all (x ∷ xs) zero h = absurd (omega arith)
 take_all (x ∷ xs) (suc n) h = ap (λ l. x ∷ l) (take_all xs n (omega arith))
+
+-- a key that comes in an object with a number
+has_some : (o : Option ℕ) → is_some o ≡ true → IsSome o
+has_some o h = h
+
+asked_at : (paths : List (Option Path)) (level : Option Level) (outer : List Level) (k : Coming) (before : Next) → is_asked level k ≡ true → IsComing paths level outer k before → IsAsked paths before
+asked_at paths level outer (Value c) before is h = absurd (false_true is)
+asked_at paths level outer Nothing before is h = absurd (false_true is)
+asked_at paths level outer Key (value p) is h = absurd h
+asked_at paths level outer Key nothing is h = absurd h
+asked_at paths None outer Key (name p) is h = absurd (false_true is)
+asked_at paths (Some l) outer Key (name p) is h = subst (λ (o : Option ℕ). IsSome o) h.0 (has_some l.place is)
+
+pub stops : (text : List ℕ) (paths : List (Option Path)) (w : Walk) (e : Event) → e.is_key ≡ true → is_asked w.level w.next ≡ true → ((s : List ℕ) → IsUtf8 s → IsText text e s → ⊥) → Stops text paths w e
+stops text paths w e is asked none n before ps walk = (is, asked_at paths w.level w.outer.items w.next before asked walk.coming, none)
+
+-- the loop ends before a key without a text
+pub has_unnamed : (text : List ℕ) (paths : List (Option Path)) (walk : Walk) (events : List Event) (n : ℕ) (e : Event) → slice_get events n ≡ Some e → Stops text paths walk e → ArePassed text paths walk events n
+    → HasUnnamed text paths events
+has_unnamed text paths walk events n e at stop are = (n, e, at, are.0, are.1, stop n (passed (value []) are.0) (parts (value []) 0 are.0) are.3)
+
+pub none_of : (text : List ℕ) (e : Event) (stop : Stop) (fault : Fault) (o : ℕ) → stop ≡ At fault o → IsTextStop text e stop → IsWithin (length text) e → (s : List ℕ) → IsUtf8 s → IsText text e s → ⊥
+none_of text e stop fault o is refused = subst (λ (x : Stop). IsTextStop text e x) is refused
+
+none_within : (n : ℕ) → n < length {A = Event} [] → ⊥
+none_within n h = omega arith
+
+-- an item of events, and where it is
+pub got : (xs : List Event) (n : ℕ) (d : Event) → n < length xs → slice_get xs n ≡ Some (get_or xs n d)
+got [] n d h = absurd (none_within n h)
+got (x ∷ xs) zero d h = refl
+got (x ∷ xs) (suc n) d h = got xs n d (omega arith)
+
+pub within_at : (count : ℕ) (xs : List Event) (n : ℕ) (d : Event) → All (IsWithin count) xs → n < length xs → IsWithin count (get_or xs n d)
+within_at count [] n d all h = absurd (none_within n h)
+within_at count (x ∷ xs) zero d all h = All-head (IsWithin count) x xs all
+within_at count (x ∷ xs) (suc n) d all h = within_at count xs n d (All-tail (IsWithin count) x xs all) (omega arith)

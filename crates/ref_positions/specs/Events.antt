@@ -1,5 +1,5 @@
 -- The events of a document of YAML as tokens.
-use Rattle.std.specs.Prelude.{◌≡◌, ◌⊎◌, ◌<◌, ◌+◌, ◌-◌, ◌^◌, ℕ, Bool, true, false, IsSome, List, [], ◌∷◌, ◌++◌, Option, ⊤, take, length, replicate}
+use Rattle.std.specs.Prelude.{◌≡◌, ◌⊎◌, ◌<◌, ◌+◌, ◌-◌, ◌^◌, ℕ, Bool, true, false, IsSome, List, [], ◌∷◌, ◌++◌, Option, Some, ⊤, take, length, replicate, slice_get, IsUtf8}
 use Rattle.ref_yaml.specs.Values.{IsText}
 use Rattle.ref_yaml.specs.declared.event.Event.{Event}
 use Rattle.ref_yaml.specs.declared.event.Kind.{Kind}
@@ -48,6 +48,19 @@ AreTokens text paths before (e ∷ es) (t ∷ ts) = (IsTokenOf text paths before
 abbrev pub Takes : List ℕ → List (Option Path) → Walk → Walk → ℕ → Event → Type 0
 Takes text paths old new n e = (before : Next) (ps : List Part) → n < 2 ^ 64 - 1 → IsWalk paths old n before ps
     → (t : Token) × (IsTokenOf text paths before e e.kind t) × (IsWalk paths new (n + 1) (next before t) (ps ++ begun before n t))
+
+-- a key in an object whose path has a number, and which has no text
+abbrev pub IsUnnamed : List ℕ → List (Option Path) → Next → Event → Type 0
+IsUnnamed text paths before e = (e.is_key ≡ true) × (IsAsked paths before) × ((s : List ℕ) → IsUtf8 s → IsText text e s → ⊥)
+
+-- an event isn't passed, since it is such a key
+abbrev pub Stops : List ℕ → List (Option Path) → Walk → Event → Type 0
+Stops text paths w e = (n : ℕ) (before : Next) (ps : List Part) → IsWalk paths w n before ps → IsUnnamed text paths before e
+
+-- there is such a key in events, after the tokens of those before it
+abbrev pub HasUnnamed : List ℕ → List (Option Path) → List Event → Type 0
+HasUnnamed text paths events = (n : ℕ) × (e : Event) × (slice_get events n ≡ Some e) × (ts : List Token) × (AreTokens text paths (value []) (take n events) ts)
+    × (IsUnnamed text paths (passed (value []) ts) e)
 
 -- so many events were passed
 abbrev pub ArePassed : List ℕ → List (Option Path) → Walk → List Event → ℕ → Type 0

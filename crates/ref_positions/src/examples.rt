@@ -1,13 +1,20 @@
 //! Rows of the definitions. Each function is empty: its contract states rows, and the check computes them.
 #![tactic(auto)]
 
-ghost use Rattle.std.specs.Prelude.{◌≡◌, [], ◌∷◌, Some, None, true, false, codes};
+ghost use Rattle.std.specs.Prelude.{◌≡◌, ℕ, [], ◌∷◌, Some, None, true, false, codes, replicate};
 ghost use Rattle.ref_positions.specs.Lines.{begins_character, next_line, next_column, next_unit, line_of, column_of, unit_of, units_of, IsAt};
 ghost use Rattle.ref_positions.specs.declared.format.Format.TheVariants.{Json, Yaml};
 ghost use Rattle.ref_positions.specs.Formats.{format_of};
 ghost use Rattle.ref_positions.specs.Paths.{member, item, below, number_of};
-ghost use Rattle.ref_positions.specs.Parts.{parts, value, value_in, key_in};
-ghost use Rattle.ref_positions.specs.Rows.{letters, listed, twice};
+ghost use Rattle.ref_positions.specs.Parts.{close, key, name, object, parts, scalar, value, value_in, key_in};
+ghost use Rattle.ref_positions.specs.Rows.{asked, letters, listed, named_found, named_tokens, twice};
+ghost use Rattle.ref_positions.specs.Events.{AreFoundIn, AreTokens, IsTokenOf};
+ghost use Rattle.ref_positions.specs.Located.{IsSpot, key_at, value_at};
+ghost use Rattle.ref_positions.specs.Walks.{IsCounted, not_found};
+ghost use Rattle.ref_positions.specs.declared.locate.Located.{Located as located_type};
+ghost use Rattle.ref_positions.specs.declared.position.Position.{Position as position_type};
+ghost use Rattle.ref_yaml.specs.Rows as yaml;
+ghost use Rattle.ref_yaml.specs.declared.event.Kind.TheVariants.{BeginObject, EndObject, Plain};
 
 /// The bytes that begin a character, and those that go on with one (RFC 3629, 3).
 pub fn characters()
@@ -96,4 +103,32 @@ pub fn parts_of_texts()
     ensures last_key { key_in (parts (value []) 0 twice) (member (codes "a") ∷ []) ≡ Some (6, 16) }
     ensures in_the_last { value_in (parts (value []) 0 twice) (member (codes "c") ∷ member (codes "a") ∷ []) ≡ Some (9, 27) }
     ensures in_the_first { value_in (parts (value []) 0 twice) (member (codes "b") ∷ member (codes "a") ∷ []) ≡ None }
+{}
+
+/// The tokens of events of YAML, and what is found in them of the whole value and its member `a`.
+pub fn found_in_events()
+    ensures begin { IsTokenOf yaml.named asked (value []) (yaml.event BeginObject 0 0) BeginObject (object 0) }
+    ensures end { IsTokenOf yaml.named asked (name []) (yaml.event EndObject 7 8) EndObject close }
+    ensures key { IsTokenOf yaml.named asked (name []) (yaml.key Plain 1 2) Plain (key (codes "a") 1) }
+    ensures another_key { ¬ (IsTokenOf yaml.named asked (name []) (yaml.key Plain 1 2) Plain (key (codes "b") 1)) }
+    ensures key_that_is_not_asked_for { IsTokenOf yaml.named [] (name []) (yaml.key Plain 1 2) Plain (key (codes "b") 1) }
+    ensures tokens { AreTokens yaml.named asked (value []) yaml.named_events named_tokens }
+    ensures too_few { ¬ (AreTokens yaml.named asked (value []) yaml.named_events (object 0 ∷ [])) }
+    ensures counted { IsCounted asked named_found (parts (value []) 0 named_tokens) }
+    ensures nothing_counted { ¬ (IsCounted asked (replicate 2 not_found) (parts (value []) 0 named_tokens)) }
+    ensures found { AreFoundIn yaml.named asked yaml.named_events named_found }
+    ensures nothing_found { ¬ (AreFoundIn yaml.named asked yaml.named_events (replicate 2 not_found)) }
+{}
+
+/// Where places are of what was found, and the positions at offsets.
+pub fn spots()
+    ensures value { (located : located_type) → located.found.items ≡ named_found → value_at located 1 ≡ Some 4 }
+    ensures key { (located : located_type) → located.found.items ≡ named_found → key_at located 1 ≡ Some 1 }
+    ensures no_key { (located : located_type) → located.found.items ≡ named_found → key_at located 0 ≡ None }
+    ensures no_place { (located : located_type) → located.found.items ≡ named_found → value_at located 2 ≡ None }
+    ensures none { IsSpot (codes "ab") None None }
+    ensures at { (p : position_type) → p.text.now ≡ codes "ab" → p.offset ≡ 1 → IsSpot (codes "ab") (Some 1) (Some p) }
+    ensures at_the_end { (p : position_type) → p.text.now ≡ codes "ab" → p.offset ≡ 2 → IsSpot (codes "ab") (Some 9) (Some p) }
+    ensures no_spot { ¬ (IsSpot (codes "ab") (Some 1) None) }
+    ensures another { (p : position_type) → p.offset ≡ 0 → ¬ (IsSpot (codes "ab") (Some 1) (Some p)) }
 {}

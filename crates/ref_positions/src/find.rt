@@ -1,14 +1,14 @@
 //! What is found of the places that are asked for, in a text of JSON and in one of YAML.
-ghost use Rattle.std.specs.Prelude.{◌≡◌, ◌≤◌, ◌<◌, IfOk, IfSome, List, length};
-ghost use Rattle.ref_positions.specs.Events.{AreFoundIn, AreFoundInYaml};
+ghost use Rattle.std.specs.Prelude.{◌≡◌, ◌≤◌, ◌<◌, IfOk, IfNone, IfSome, List, length};
+ghost use Rattle.ref_positions.specs.Events.{AreFoundIn, HasUnnamed};
 ghost use Rattle.ref_positions.specs.Parts.{Part, within};
 ghost use Rattle.ref_positions.specs.Places.{IsTree};
 ghost use Rattle.ref_positions.specs.Walks.{IsTable, IsCounted, settled};
 
 use crate::places::Places;
-use crate::walk::{Found, Walk, nothing_found};
+use crate::walk::{Found, Walk};
 use json::{Reader, Scratch};
-use ref_yaml::{Document, Stop};
+use ref_yaml::Document;
 use std::alloc::{AllocError, Global};
 
 impl Places {
@@ -31,26 +31,14 @@ impl Places {
         Ok(self.last_of(walk.into_found()))
     }
 
-    pub(crate) fn found_in_yaml(&self, alloc: Global, text: &str) -> Result<Vec<Found>, AllocError>
-        ensures found { IfOk result (λ found. AreFoundInYaml text.now self.now found.items) }
-    {
-        match Document::parse(alloc, text) {
-            Ok(document) => match self.found_in_document(alloc, &document)? {
-                Some(found) => Ok(found),
-                None => nothing_found(alloc, self),
-            },
-            Err(Stop::Memory) => Err(AllocError),
-            Err(Stop::At(..)) => nothing_found(alloc, self),
-        }
-    }
-
     // What is found in a document, or nothing where a key has no text that is in an object that is asked for.
-    fn found_in_document(
+    pub(crate) fn found_in_document(
         &self,
         alloc: Global,
         document: &Document<'_>,
     ) -> Result<Option<Vec<Found>>, AllocError>
         ensures found { IfOk result (λ r. IfSome r (λ found. AreFoundIn document.now.text.now self.now document.now.events.items found.items)) }
+        ensures refused { IfOk result (λ r. IfNone r (HasUnnamed document.now.text.now self.now document.now.events.items)) }
     {
         let events = document.events();
         let mut walk = Walk::new(alloc, self)?;

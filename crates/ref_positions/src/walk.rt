@@ -1,9 +1,9 @@
 //! The walk over the tokens of a text, which notes where the places are that are asked for.
 ghost use Rattle.std.specs.Prelude.{◌≡◌, ◌≤◌, ◌<◌, ◌+◌, ◌-◌, ◌^◌, ℕ, List, [], ◌∷◌, ◌++◌, Option, Some, None, IfOk, OnOk, IsTrue, ◌↔◌, IsSome, length, replicate, true, false};
-ghost use Rattle.ref_yaml.specs.Events.{is_scalar};
+ghost use Rattle.ref_yaml.specs.Events.{is_scalar, IsWithin};
 ghost use Rattle.ref_positions.specs.Paths.{Path, Step, member, item, number_of};
 ghost use Rattle.ref_positions.specs.Parts.{Next, key, object, array, scalar, close, value, name, next, after, Part, begun};
-ghost use Rattle.ref_positions.specs.Events.{Takes};
+ghost use Rattle.ref_positions.specs.Events.{Takes, Stops};
 ghost use Rattle.ref_positions.specs.Places.{IsTree};
 ghost use Rattle.ref_positions.specs.Walks.{IsTable, IsStep, IsNamed, AreOpen, IsComing, IsFew, IsWalk, Passes, with_value, with_key, not_found, ends, is_item, is_asked, IsOtherKey};
 
@@ -313,6 +313,8 @@ impl Walk {
         event: &Event,
     ) -> Result<bool, AllocError>
         ensures takes { IfOk result (λ could. could ≡ true → Takes document.now.text.now places.now self.old self.new number event.now) }
+        ensures stops { IfOk result (λ could. could ≡ false → IsWithin (length document.now.text.now) event.now
+            → Stops document.now.text.now places.now self.old event.now) }
     {
         match event.kind {
             Kind::EndObject => {
@@ -350,6 +352,8 @@ impl Walk {
     ) -> Result<bool, AllocError>
         requires is_scalar { IsTrue (is_scalar event.now.kind) }
         ensures takes { IfOk result (λ could. could ≡ true → Takes document.now.text.now places.now self.old self.new number event.now) }
+        ensures stops { IfOk result (λ could. could ≡ false → IsWithin (length document.now.text.now) event.now
+            → Stops document.now.text.now places.now self.old event.now) }
     {
         if !event.is_key {
             self.pass_scalar(places, number, event.start);

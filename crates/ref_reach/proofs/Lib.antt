@@ -1,5 +1,6 @@
 pub mod Lists
 pub mod Growing
+pub mod Members
 pub mod Found
 pub mod Roots
 pub mod Closing

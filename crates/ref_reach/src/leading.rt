@@ -1,6 +1,7 @@
 //! Where a reference leads from a place.
-ghost use Rattle.std.specs.Prelude.{◌≡◌, ◌++◌, ◌∷◌, [], map, not, Err, Result, option_map, IfOk};
+ghost use Rattle.std.specs.Prelude.{◌≡◌, ◌++◌, ◌∷◌, [], map, not, Err, Result, option_map, IfOk, IfSome, string_bytes};
 ghost use Rattle.serde_json.specs.View.{view};
+ghost use Rattle.serde_json.specs.Find.{get};
 ghost use Rattle.ref_paths.specs.Path.{child_at, value_at};
 ghost use Rattle.ref_paths.specs.Segment.{part_of};
 ghost use Rattle.ref_draft.specs.Keywords.{is_unknown};
@@ -62,74 +63,106 @@ pub struct Target<'r> {
     pub base: Rc<Uri>,
 }
 
-// A path with more segments after it.
-fn path_with<'r>(
-    alloc: Global,
-    path: JsonPointerNode<'r>,
-    segments: Vec<JsonPointerSegment<'r>>,
-) -> Result<JsonPointerNode<'r>, AllocError>
-    ensures { IfOk result (λ longer. longer ≡ path.entry ++ map part_of segments.entry.items) }
+// Segments with more after them.
+fn joined<'s>(
+    first: Vec<JsonPointerSegment<'s>>,
+    more: Vec<JsonPointerSegment<'s>>,
+) -> Result<Vec<JsonPointerSegment<'s>>, AllocError>
+    ensures { IfOk result
+        (λ list. map part_of list.items
+        ≡ map part_of first.entry.items ++ map part_of more.entry.items) }
 {
-    let mut path = path;
-    for segment in segments {
-        path = path.push(alloc, segment)?;
+    let mut list = first;
+    for segment in more {
+        list.push(segment)?;
     }
-    Ok(path)
+    Ok(list)
 }
 
 // The document and the path of a location, where it is in one of the documents, or in a part of one.
-fn origin<'r>(
+fn origin<'s>(
     alloc: Global,
-    documents: &'r Documents<'r>,
-    location: Location<'r>,
-) -> Result<Option<(usize, JsonPointerNode<'r>)>, AllocError>
+    documents: &'s Documents<'_>,
+    location: Location<'s>,
+) -> Result<Option<(usize, Vec<JsonPointerSegment<'s>>)>, AllocError>
     ensures { IfOk result
-        (λ at. at ≡ spec.origin (known_of documents.now) (location_view location.entry).1) }
+        (λ at. option_map (λ a. (a.0, map part_of a.1.items)) at
+        ≡ spec.origin (known_of documents.now) (location_view location.entry).1) }
 {
     let Location { document, path, .. } = location;
     if document < documents.len() {
-        let path = path_with(alloc, JsonPointerNode::new(), path)?;
         return Ok(Some((document, path)));
     }
     match documents.parts.get(document - documents.len()) {
         Some(part) => {
-            let path = path_with(alloc, part.path.clone()?, path)?;
-            Ok(Some((part.document, path)))
+            let first = segments_of(alloc, &part.path)?;
+            Ok(Some((part.document, joined(first, path)?)))
         }
         None => Ok(None),
     }
 }
 
-// The value that a segment leads to.
-fn step<'v>(value: &'v Value, segment: &JsonPointerSegment<'_>) -> Option<&'v Value>
-    ensures { option_map (λ v. view v.now) result
+// What a segment leads to, and the segment with the key that the value has.
+fn step<'v>(
+    value: &'v Value,
+    segment: &JsonPointerSegment<'_>,
+) -> Option<(JsonPointerSegment<'v>, &'v Value)>
+    ensures value { option_map (λ p. view p.1.now) result
         ≡ child_at (view value.now) (part_of segment.now) }
+    ensures segment { IfSome result (λ p. part_of p.0 ≡ part_of segment.now) }
 {
     match segment {
-        JsonPointerSegment::Key(key) => value.get(key.as_str()),
-        JsonPointerSegment::Index(index) => value.get(*index),
+        JsonPointerSegment::Key(key) => {
+            let (name, inner) = member(value, key.as_str())?;
+            Some((JsonPointerSegment::from(name), inner))
+        }
+        JsonPointerSegment::Index(index) => {
+            let inner = value.get(*index)?;
+            Some((JsonPointerSegment::from(*index), inner))
+        }
     }
 }
 
-// The value at a path.
-fn value_at<'v>(value: &'v Value, path: &[JsonPointerSegment<'_>]) -> Option<&'v Value>
-    ensures { option_map (λ v. view v.now) result
-        ≡ value_at (view value.now) (map part_of path.now) }
+// The member of an object with a key, and the object's own key.
+fn member<'v>(value: &'v Value, key: &str) -> Option<(&'v String, &'v Value)>
+    ensures value { option_map (λ p. view p.1.now) result ≡ get key.now (view value.now) }
+    ensures key { IfSome result (λ p. string_bytes p.0.now ≡ key.now) }
 {
+    let members = value.as_object()?;
+    let (name, inner) = members.get_key_value(key)?;
+    Some((name, inner))
+}
+
+// The value at a path, and the path with the keys that the values have.
+fn value_at<'v>(
+    alloc: Global,
+    value: &'v Value,
+    path: &[JsonPointerSegment<'_>],
+) -> Result<Option<(JsonPointerNode<'v>, &'v Value)>, AllocError>
+    ensures value { IfOk result
+        (λ found. option_map (λ p. view p.1.now) found
+        ≡ value_at (view value.now) (map part_of path.now)) }
+    ensures path { IfOk result (λ found. IfSome found (λ p. p.0 ≡ map part_of path.now)) }
+{
+    let mut at = JsonPointerNode::new();
     let mut value = value;
     for segment in path {
-        value = step(value, segment)?;
+        let Some((own, inner)) = step(value, segment) else {
+            return Ok(None);
+        };
+        at = at.push(alloc, own)?;
+        value = inner;
     }
-    Some(value)
+    Ok(Some((at, value)))
 }
 
 /// What a look-up found, in the document's own value.
-pub(crate) fn found_at<'r>(
+pub(crate) fn found_at<'v, 's>(
     alloc: Global,
-    documents: &'r Documents<'r>,
-    resolved: Resolved<'r>,
-    location: Location<'r>,
-) -> Result<Option<Target<'r>>, AllocError>
+    documents: &'s Documents<'v>,
+    resolved: Resolved<'s>,
+    location: Location<'s>,
+) -> Result<Option<Target<'v>>, AllocError>
     ensures { IfOk result
         (λ t. option_map target_of t
         ≡ spec.target_found (known_of documents.now) (found_of resolved.entry)
@@ -141,8 +174,7 @@ pub(crate) fn found_at<'r>(
     let Some(root) = documents.values.get(document) else {
         return Ok(None);
     };
-    let segments = segments_of(alloc, &path)?;
-    let Some(value) = value_at(*root, segments.as_slice()) else {
+    let Some((path, value)) = value_at(alloc, *root, path.as_slice())? else {
         return Ok(None);
     };
     let (_, resolver, draft) = resolved.into_inner();
@@ -282,7 +314,7 @@ pub(crate) fn version_text(version: Option<Version>) -> &'static str
 // What a reference is that leads to what no description has by itself.
 fn led_elsewhere<'r>(
     alloc: Global,
-    documents: &'r Documents<'r>,
+    documents: &Documents<'r>,
     from: Reading,
     wanted: Kind,
     target: Target<'r>,
@@ -302,7 +334,7 @@ fn led_elsewhere<'r>(
 // What a reference is that leads to what a description has by itself.
 fn led_to_own<'r>(
     alloc: Global,
-    documents: &'r Documents<'r>,
+    documents: &Documents<'r>,
     from: Reading,
     wanted: Kind,
     uri: Rc<Uri>,
@@ -335,7 +367,7 @@ fn led_to_own<'r>(
 // What a reference is that leads to this.
 fn led<'r>(
     alloc: Global,
-    documents: &'r Documents<'r>,
+    documents: &Documents<'r>,
     from: Reading,
     wanted: Kind,
     uri: Rc<Uri>,
@@ -449,7 +481,7 @@ fn fault_in(error: Error) -> Result<Error, AllocError>
 // What a text is that is a reference from a base.
 fn text_outcome<'r>(
     alloc: Global,
-    documents: &'r Documents<'r>,
+    documents: &Documents<'r>,
     place: &Place<'r>,
     wanted: Kind,
     text: &str,
@@ -493,7 +525,7 @@ fn is_mapped(under: Under) -> bool
 /// What a reference of a place is.
 pub(crate) fn outcome_of<'r>(
     alloc: Global,
-    documents: &'r Documents<'r>,
+    documents: &Documents<'r>,
     place: &Place<'r>,
     reference: Reference<'r>,
 ) -> Result<Outcome<'r>, AllocError>

@@ -17,7 +17,7 @@ use std::alloc::{AllocError, Global};
 /// nowhere, or to what is in none of the documents. Fails only if out of memory. A look-up.
 pub fn target<'r>(
     alloc: Global,
-    documents: &'r Documents<'r>,
+    documents: &Documents<'r>,
     place: &Place<'r>,
     text: &str,
 ) -> Result<Option<Target<'r>>, AllocError>

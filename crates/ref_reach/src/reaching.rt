@@ -37,7 +37,7 @@ pub struct Reached<'r> {
 // Where references are followed: the documents, and of schemas the places that they have by themselves.
 #[derive(Clone, Copy)]
 struct Around<'r, 's> {
-    documents: &'r Documents<'r>,
+    documents: &'s Documents<'r>,
     schemas: Option<&'s Schemas<'r>>,
 }
 
@@ -359,7 +359,7 @@ fn from_schemas<'r>(
 /// What is reached from the descriptions among documents: the places that their references lead to, what is below these, what the
 /// references of these lead to, and so on. Each place is walked once; linear in the places, with a look-up for each reference. Fails only if
 /// out of memory.
-pub fn reach<'r>(alloc: Global, documents: &'r Documents<'r>) -> Result<Reached<'r>, AllocError>
+pub fn reach<'r>(alloc: Global, documents: &Documents<'r>) -> Result<Reached<'r>, AllocError>
     ensures places { IfOk result
         (λ reached. AreReached (around_descriptions (known_of documents.now))
         (map place_of reached.places.items)) }
@@ -386,7 +386,7 @@ pub fn reach<'r>(alloc: Global, documents: &'r Documents<'r>) -> Result<Reached<
 /// of another kind than a schema. Each place is walked once; linear in the places, with a look-up for each reference. Fails only if out of memory.
 pub fn reach_schemas<'r>(
     alloc: Global,
-    documents: &'r Documents<'r>,
+    documents: &Documents<'r>,
     schemas: &Schemas<'r>,
 ) -> Result<Reached<'r>, AllocError>
     ensures places { IfOk result

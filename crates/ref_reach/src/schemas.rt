@@ -183,7 +183,7 @@ fn unless_own<'v>(
 /// What a reference of a schema is.
 pub(crate) fn outcome_in_schema<'r>(
     alloc: Global,
-    documents: &'r Documents<'r>,
+    documents: &Documents<'r>,
     schemas: &Schemas<'r>,
     place: &Place<'r>,
     reference: Reference<'r>,

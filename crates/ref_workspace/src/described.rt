@@ -239,31 +239,15 @@ fn faults_by<'d>(
     described: &mut Described,
 ) -> Result<Vec<Fault<'d>>, AllocError> {
     let documents = documents_of(alloc, workspace.draft(), numbered.sources.as_slice())?;
-    let documents = kept(alloc, documents)?;
     let numbers = numbered.numbers.as_slice();
-    faults_among(alloc, workspace.asked(), numbers, documents, described)
-}
-
-/// Keeps documents to the end of the program. What is reached in them has their own lifetime, which no borrow of a local one has here, so
-/// that their index isn't given back.
-pub(crate) fn kept<'v>(
-    alloc: Global,
-    documents: Documents<'v>,
-) -> Result<&'v Documents<'v>, AllocError> {
-    let mut list = Vec::new(alloc);
-    list.push(documents)?;
-    let list: &'v [Documents<'v>] = list.leak();
-    match list.first() {
-        Some(documents) => Ok(documents),
-        None => Err(AllocError),
-    }
+    faults_among(alloc, workspace.asked(), numbers, &documents, described)
 }
 
 fn faults_among<'d, 'r>(
     alloc: Global,
     asked: usize,
     numbers: &[usize],
-    documents: &'r Documents<'r>,
+    documents: &Documents<'r>,
     described: &mut Described,
 ) -> Result<Vec<Fault<'d>>, AllocError> {
     let reached = reach(alloc, documents)?;
@@ -454,9 +438,8 @@ impl Workspace {
         description: &mut Description<'d>,
     ) -> Result<(), AllocError> {
         let documents = documents_of(alloc, self.draft(), numbered.sources.as_slice())?;
-        let documents = kept(alloc, documents)?;
         let numbers = numbered.numbers.as_slice();
-        description.add_all(alloc, self, numbers, documents, described)
+        description.add_all(alloc, self, numbers, &documents, described)
     }
 
     /// The URIs of documents that references of descriptions lead into and that aren't there, in the order in which they are met; a URI may come
@@ -497,7 +480,7 @@ impl<'d> Description<'d> {
         alloc: Global,
         workspace: &Workspace,
         numbers: &[usize],
-        documents: &'r Documents<'r>,
+        documents: &Documents<'r>,
         described: &mut Described,
     ) -> Result<(), AllocError> {
         let reached = reach(alloc, documents)?;

@@ -32,7 +32,7 @@ pub(crate) fn no_schemas_in<'d, 'r>(
     alloc: Global,
     asked: usize,
     numbers: &[usize],
-    documents: &'r Documents<'r>,
+    documents: &Documents<'r>,
     places: &[Place<'r>],
     list: &mut Vec<NoSchema<'d>>,
 ) -> Result<(), AllocError> {
@@ -59,7 +59,7 @@ impl<'r> Leads<'r> {
     fn add(
         &mut self,
         alloc: Global,
-        documents: &'r Documents<'r>,
+        documents: &Documents<'r>,
         number: usize,
         place: &Place<'r>,
     ) -> Result<(), AllocError> {
@@ -72,7 +72,7 @@ impl<'r> Leads<'r> {
     fn add_one(
         &mut self,
         alloc: Global,
-        documents: &'r Documents<'r>,
+        documents: &Documents<'r>,
         number: usize,
         place: &Place<'r>,
         reference: Reference<'r>,

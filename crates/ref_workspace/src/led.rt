@@ -1,8 +1,8 @@
 //! What references of schemas lead to where no keyword does, as grouped definitions: the places there, and what is wrong with their
 //! references.
 use crate::described::{
-    Described, Description, Fault, Numbered, add_fault, each_once, faults_in, kept,
-    numbered_sources, pointer_at,
+    Described, Description, Fault, Numbered, add_fault, each_once, faults_in, numbered_sources,
+    pointer_at,
 };
 use crate::ends::ends_of;
 use crate::finding::Finding;
@@ -94,19 +94,18 @@ fn led_by<'d>(
     is_any: bool,
 ) -> Result<Led<'d>, AllocError> {
     let documents = documents_of(alloc, workspace.draft(), numbered.sources.as_slice())?;
-    let documents = kept(alloc, documents)?;
     let numbers = numbered.numbers.as_slice();
-    let schemas = schemas_among(alloc, workspace, numbers, documents, &*described)?;
+    let schemas = schemas_among(alloc, workspace, numbers, &documents, &*described)?;
     let mut no_schemas = Vec::new(alloc);
     let asked = workspace.asked();
     let own = schemas.places();
-    no_schemas_in(alloc, asked, numbers, documents, own, &mut no_schemas)?;
+    no_schemas_in(alloc, asked, numbers, &documents, own, &mut no_schemas)?;
     if is_any {
         return led_among(
             alloc,
             asked,
             numbers,
-            documents,
+            &documents,
             (&schemas, described),
             no_schemas,
         );
@@ -145,7 +144,7 @@ fn led_among<'d, 'r>(
     alloc: Global,
     asked: usize,
     numbers: &[usize],
-    documents: &'r Documents<'r>,
+    documents: &Documents<'r>,
     (schemas, described): (&Schemas<'r>, &mut Described),
     no_schemas: Vec<NoSchema<'d>>,
 ) -> Result<Led<'d>, AllocError> {
@@ -207,9 +206,8 @@ fn add_places_by<'d>(
     description: &mut Description<'d>,
 ) -> Result<(), AllocError> {
     let documents = documents_of(alloc, workspace.draft(), numbered.sources.as_slice())?;
-    let documents = kept(alloc, documents)?;
     let numbers = numbered.numbers.as_slice();
-    let reached = reached_in(alloc, workspace, numbers, documents, described)?;
+    let reached = reached_in(alloc, workspace, numbers, &documents, described)?;
     description.add_places(alloc, workspace, numbers, reached.places.as_slice())
 }
 
@@ -217,7 +215,7 @@ fn reached_in<'r>(
     alloc: Global,
     workspace: &Workspace,
     numbers: &[usize],
-    documents: &'r Documents<'r>,
+    documents: &Documents<'r>,
     described: &Described,
 ) -> Result<Reached<'r>, AllocError> {
     let schemas = schemas_among(alloc, workspace, numbers, documents, described)?;

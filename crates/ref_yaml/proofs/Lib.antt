@@ -3,3 +3,4 @@ pub mod Texts
 pub mod Trees
 pub mod Numbers
 pub mod OneLine
+pub mod Derivations

@@ -1,5 +1,12 @@
 -- Texts with escapes, a byte at a time.
-use Rattle.std.proofs.Common.{◌≡◌, ℕ, List, ◌∷◌, ◌++◌, ◌∙◌, Option, Some, None, option_map, refl, ap, sym, append_assoc}
+use Rattle.std.proofs.Common.{◌≡◌, ℕ, List, ◌∷◌, ◌++◌, ◌∙◌, Option, Some, None, option_map, refl, ap, sym, append_assoc, false, Result, Ok, Err, IfErr, IsUtf8}
+use Rattle.ref_yaml.specs.Flow.{with_feeds}
+use Rattle.ref_yaml.specs.Block.{after_header, chomping_of, literal_text, folded_text}
+use Rattle.ref_yaml.specs.Scalars.{literal_scalar, folded_scalar}
+use Rattle.ref_yaml.specs.Values.{IsNoText, IsTextStop, IsText}
+use Rattle.ref_yaml.specs.declared.event.Event.{Event}
+use Rattle.ref_yaml.specs.declared.fault.Stop.{Stop}
+use Rattle.ref_yaml.specs.declared.fault.Stop.TheVariants.{Memory, At}
 use Rattle.ref_yaml.specs.Escapes.{Reading, by_byte, unescaped_from}
 
 pub joined : (a b : List ℕ) (o : Option (List ℕ)) → option_map (λ s. a ++ s) (option_map (λ s. b ++ s) o) ≡ option_map (λ s. (a ++ b) ++ s) o
@@ -11,3 +18,25 @@ pub passed : (r next : Reading) (b : ℕ) (t out new s : List ℕ) (all : Option
 passed r next b t out new s all e o h =
     let k : option_map (λ x. out ++ x) (option_map (λ x. s ++ x) (unescaped_from next t)) ≡ all = rw e at h in
     rw o (sym (joined out s (unescaped_from next t)) ∙ k)
+
+-- no text is so, where none is otherwise
+pub no_text_by : {T : Type 0} (r : Result T Stop) (P Q : List ℕ → Type 0) → ((s : List ℕ) → Q s → P s) → IfErr r (IsNoText P) → IfErr r (IsNoText Q)
+no_text_by (Ok t) P Q by is = tt
+no_text_by (Err Memory) P Q by is = tt
+no_text_by (Err (At f o)) P Q by is = λ s u q. is s u (by s q)
+
+pub no_text_of : {T : Type 0} (r : Result T Stop) (text : List ℕ) (e : Event) (P : List ℕ → Type 0) → ((s : List ℕ) → IsText text e s → P s) → IfErr r (IsNoText P) → IfErr r (IsTextStop text e)
+no_text_of (Ok t) text e P by is = tt
+no_text_of (Err Memory) text e P by is = λ within. tt
+no_text_of (Err (At f o)) text e P by is = λ within s u q. is s u (by s q)
+
+pub some_is : (s t : List ℕ) → Some s ≡ Some t → s ≡ t
+some_is s t h = cc
+
+pub literal_is : (indent chomping : ℕ) (source header from s : List ℕ) → chomping ≡ chomping_of source → header ≡ after_header source → source ≡ from → s ≡ literal_text chomping indent (with_feeds false header)
+    → s ≡ literal_scalar indent from
+literal_is indent chomping source header from s a b d is = cc
+
+pub folded_is : (indent chomping : ℕ) (source header from s : List ℕ) → chomping ≡ chomping_of source → header ≡ after_header source → source ≡ from → s ≡ folded_text chomping indent (with_feeds false header)
+    → s ≡ folded_scalar indent from
+folded_is indent chomping source header from s a b d is = cc

@@ -1,9 +1,9 @@
 -- Events and faults, and their offsets.
-use Rattle.std.specs.Prelude.{ℕ, ◌-◌, ◌*◌, max, ◌<◌, ◌≤◌, ◌==◌, ◌&&◌, ◌||◌, Bool, true, false, not, nat_le, nat_lt, IsTrue, if◌then◌else◌, List, [], ◌∷◌, slice_index, ⊤}
+use Rattle.std.specs.Prelude.{ℕ, ◌-◌, ◌*◌, max, ◌<◌, ◌≤◌, ◌==◌, ◌&&◌, ◌||◌, Bool, true, false, not, nat_le, IsTrue, List, [], ◌∷◌, slice_index, ⊤}
 use Rattle.ref_yaml.specs.Flow.{is_white}
 use Rattle.ref_yaml.specs.declared.event.Event.{Event}
 use Rattle.ref_yaml.specs.declared.event.Kind.{Kind}
-use Rattle.ref_yaml.specs.declared.event.Kind.TheVariants.{EndArray, EndObject, Plain, SingleQuoted, DoubleQuoted, Literal, Folded}
+use Rattle.ref_yaml.specs.declared.event.Kind.TheVariants.{BeginArray, EndArray, BeginObject, EndObject, Plain, SingleQuoted, DoubleQuoted, Literal, Folded}
 use Rattle.ref_yaml.specs.declared.fault.Stop.{Stop}
 use Rattle.ref_yaml.specs.declared.fault.Stop.TheVariants.{Memory, At}
 
@@ -28,6 +28,10 @@ IsWithin count event = (event.start ≤ event.end) × (event.end ≤ count)
 abbrev pub is_space : ℕ → Bool
 is_space b = is_white b || (b == 10) || (b == 13)
 
+-- a byte that no object begins at: white space, a comma, or a closing bracket
+abbrev pub is_between : ℕ → Bool
+is_between b = is_space b || (b == 44) || (b == 93) || (b == 125)
+
 -- whether an event may have these as its first and its last byte: quotes, `|` or `>`, a closing bracket, and in a plain scalar no white space
 abbrev pub has_ends : Kind → ℕ → ℕ → Bool
 has_ends SingleQuoted first last = (first == 39) && (last == 39)
@@ -39,16 +43,20 @@ has_ends EndArray first last = first == 93
 has_ends EndObject first last = first == 125
 has_ends kind first last = true
 
--- an event that has bytes has these at its ends
-abbrev pub IsInPlace : List ℕ → Event → Type 0
-IsInPlace text e = e.start < e.end → IsTrue (has_ends e.kind (slice_index text e.start) (slice_index text (e.end - 1)))
+-- whether an event may begin at this byte: a list at `[` or at `-`, an object at its bracket or where its first key does
+abbrev pub may_begin : Kind → ℕ → Bool
+may_begin BeginArray first = (first == 91) || (first == 45)
+may_begin BeginObject first = not (is_between first)
+may_begin kind first = true
 
--- whether each event that has bytes begins after the end of the one before it that has, the first of them at an offset or later
+-- what an event begins at, and one that has bytes what is at its ends
+abbrev pub IsInPlace : List ℕ → Event → Type 0
+IsInPlace text e = IsTrue (may_begin e.kind (slice_index text e.start)) × (e.start < e.end → IsTrue (has_ends e.kind (slice_index text e.start) (slice_index text (e.end - 1))))
+
+-- whether each event begins at the end of the one before it or later, the first of them at an offset or later
 abbrev pub are_apart : ℕ → List Event → Bool
 are_apart from [] = true
-are_apart from (e ∷ es) =
-    if nat_lt e.start e.end then nat_le from e.start && are_apart e.end es
-    else are_apart from es
+are_apart from (e ∷ es) = nat_le from e.start && are_apart e.end es
 
 -- what is wrong is within a text of so many bytes, or at its end
 abbrev pub IsStopWithin : ℕ → Stop → Type 0

@@ -6,4 +6,5 @@ pub mod Scalars
 pub mod Events
 pub mod Core
 pub mod Values
+pub mod Documents
 pub mod Rows

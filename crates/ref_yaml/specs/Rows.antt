@@ -1,5 +1,10 @@
--- The texts of examples of YAML 1.2.2.
-use Rattle.std.specs.Prelude.{ℕ, List, codes}
+-- The texts of examples of YAML 1.2.2, and events.
+use Rattle.std.specs.Prelude.{ℕ, List, [], ◌∷◌, codes, true, false}
+use Rattle.ref_yaml.specs.declared.event.Event.{Event}
+use Rattle.ref_yaml.specs.declared.event.Kind.{Kind}
+use Rattle.ref_yaml.specs.declared.event.Kind.TheVariants.{BeginArray, EndArray, BeginObject, EndObject, Plain, SingleQuoted}
+use Rattle.ref_yaml.specs.declared.event.Tag.{Tag}
+use Rattle.ref_yaml.specs.declared.event.Tag.TheVariants.{None}
 
 -- 7.12
 abbrev pub plain_lines : List ℕ
@@ -139,3 +144,63 @@ date = codes "2020-01-01"
 
 abbrev pub off : List ℕ
 off = codes "off"
+
+-- escapes that there aren't (5.7), in double quotes: a letter, half of a pair of surrogates, and too few digits
+abbrev pub no_escape : List ℕ
+no_escape = codes "\\q"
+
+abbrev pub half : List ℕ
+half = codes "\\ud83d"
+
+abbrev pub few_digits : List ℕ
+few_digits = codes "\\x4"
+
+-- line breaks of all kinds (5.4), and as line feeds
+abbrev pub returns : List ℕ
+returns = 97 ∷ 13 ∷ 10 ∷ 98 ∷ 13 ∷ 13 ∷ 99 ∷ 10 ∷ []
+
+abbrev pub returns_feeds : List ℕ
+returns_feeds = 97 ∷ 10 ∷ 98 ∷ 10 ∷ 10 ∷ 99 ∷ 10 ∷ []
+
+-- an event without an anchor and a tag: a key or a value from one offset to another
+abbrev pub key : Kind → ℕ → ℕ → Event
+key kind start end = record { kind = kind; is_key = true; tag = None; start = start; end = end; link = 0; anchor = 0 }
+
+abbrev pub event : Kind → ℕ → ℕ → Event
+event kind start end = record { kind = kind; is_key = false; tag = None; start = start; end = end; link = 0; anchor = 0 }
+
+-- with a tag
+abbrev pub tagged : Tag → Kind → ℕ → ℕ → Event
+tagged tag kind start end = record { kind = kind; is_key = false; tag = tag; start = start; end = end; link = 0; anchor = 0 }
+
+-- texts, each with its events
+abbrev pub quoted : List ℕ
+quoted = codes "'it''s'"
+
+abbrev pub quoted_event : Event
+quoted_event = event SingleQuoted 0 7
+
+abbrev pub listed : List ℕ
+listed = codes "['a', 'b']"
+
+abbrev pub listed_events : List Event
+listed_events = event BeginArray 0 0 ∷ event SingleQuoted 1 4 ∷ event SingleQuoted 6 9 ∷ event EndArray 9 10 ∷ []
+
+abbrev pub named : List ℕ
+named = codes "{a: 'b'}"
+
+abbrev pub named_events : List Event
+named_events = event BeginObject 0 0 ∷ key Plain 1 2 ∷ event SingleQuoted 4 7 ∷ event EndObject 7 8 ∷ []
+
+abbrev pub twice : List ℕ
+twice = codes "{a: 'b', a: 'c'}"
+
+abbrev pub twice_events : List Event
+twice_events = event BeginObject 0 0 ∷ key Plain 1 2 ∷ event SingleQuoted 4 7 ∷ key Plain 9 10 ∷ event SingleQuoted 12 15 ∷ event EndObject 15 16 ∷ []
+
+-- events that overlap, and an empty one within another
+abbrev pub overlapping : List Event
+overlapping = event Plain 0 2 ∷ event Plain 1 3 ∷ []
+
+abbrev pub within_another : List Event
+within_another = event Plain 0 2 ∷ event Plain 1 1 ∷ []

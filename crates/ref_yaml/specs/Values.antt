@@ -1,5 +1,5 @@
 -- What value events are, by YAML 1.2.2, sections 3.2.1 and 10. Texts are their bytes.
-use Rattle.std.specs.Prelude.{◌≡◌, ℕ, ◌+◌, ◌-◌, Bool, true, false, IsTrue, All, length, is_some, if◌then◌else◌, List, [], ◌∷◌, ◌++◌, Option, Some, None}
+use Rattle.std.specs.Prelude.{◌≡◌, ℕ, ◌+◌, ◌-◌, Bool, true, false, IsTrue, length, is_some, if◌then◌else◌, List, [], ◌∷◌, ◌++◌, Option, Some, None, ⊤, IsUtf8}
 use Rattle.serde_json.specs.Data.{Data, string, array, object, Members, no_members, put}
 use Rattle.serde_json.specs.Find.{as_null, as_bool, as_number, as_str, as_array, as_object, get_member}
 use Rattle.serde_json.specs.View.{items_of}
@@ -9,6 +9,8 @@ use Rattle.ref_yaml.specs.Scalars.{part, plain_text, single_text, double_text, I
 use Rattle.ref_yaml.specs.declared.event.Event.{Event}
 use Rattle.ref_yaml.specs.declared.event.Kind.{Kind}
 use Rattle.ref_yaml.specs.declared.event.Kind.TheVariants.{BeginArray, EndArray, BeginObject, EndObject, Plain, SingleQuoted, DoubleQuoted, Literal, Folded}
+use Rattle.ref_yaml.specs.declared.fault.Stop.{Stop}
+use Rattle.ref_yaml.specs.declared.fault.Stop.TheVariants.{Memory, At}
 use Rattle.ref_yaml.specs.declared.event.Tag.{Tag}
 use Rattle.ref_yaml.specs.declared.event.Tag.TheVariants as tag
 
@@ -20,6 +22,15 @@ pub record IsText (text : List ℕ) (e : Event) (s : List ℕ) : Type 0 where
   pub double : e.kind ≡ DoubleQuoted → Some s ≡ double_text (part text (e.start + 1) (e.end - 1))
   pub literal : e.kind ≡ Literal → IsLiteral text e.start e.end e.link s
   pub folded : e.kind ≡ Folded → IsFolded text e.start e.end e.link s
+
+-- Why there is no text that is so: memory, or none is.
+abbrev pub IsNoText : (List ℕ → Type 0) → Stop → Type 0
+IsNoText is Memory = ⊤
+IsNoText is (At fault offset) = (s : List ℕ) → IsUtf8 s → is s → ⊥
+
+-- why an event has no text: memory; or it isn't within the text, or no text is its own
+abbrev pub IsTextStop : List ℕ → Event → Stop → Type 0
+IsTextStop text e stop = IsWithin (length text) e → IsNoText (IsText text e) stop
 
 -- whether a scalar is a text, whatever it says (10.3.2): if it isn't plain, or if its tag asks for one
 abbrev pub is_text : Tag → Kind → Bool
@@ -69,7 +80,3 @@ mutual
     one_more_member : (es next rest : List Event) (ms : Members) (key : Event) (name : List ℕ) (d : Data) → AreMembers text es ms (key ∷ next)
         → key.is_key ≡ true → IsText text key name → get_member name ms ≡ None → IsValue text next d rest
         → AreMembers text es (put name d ms) rest
-
--- a text read as a value: there are events within it, of which this is the value
-abbrev pub IsYamlOf : List ℕ → Data → Type 0
-IsYamlOf text d = (events : List Event) × All (IsWithin (length text)) events × IsValue text events d []

@@ -151,7 +151,7 @@ impl Parser<'_> {
             return self.fault(Fault::Depth);
         }
         if self.byte() == b':' {
-            let key = node.own.with(Event::empty(node.own.end.min(self.here.at)));
+            let key = node.own.with(Event::empty(self.here.at));
             return self.object(node, Some(key), depth - 1);
         }
         if node.own.are_some() {
@@ -241,7 +241,11 @@ impl Parser<'_> {
     #[cycle(node)]
     fn object(&mut self, node: Node, first: Option<Event>, depth: usize) -> Result<(), Stop> {
         let column = node.start.column();
-        let index = self.open(Kind::BeginObject, node.start.at, node.outer)?;
+        let start = match first {
+            Some(key) => key.start,
+            None => self.here.at,
+        };
+        let index = self.open(Kind::BeginObject, start, node.outer)?;
         match first {
             Some(key) => {
                 self.push_key(key)?;
@@ -294,7 +298,7 @@ impl Parser<'_> {
             return Err(Stop::At(Fault::Colon, start));
         }
         if self.is_indicator(b':') {
-            return Ok(own.with(Event::empty(own.end)));
+            return Ok(own.with(Event::empty(self.here.at)));
         }
         if matches!(self.byte(), b'[' | b'{') {
             return self.fault(Fault::Key);

@@ -1,9 +1,9 @@
 //! A text of one document.
-ghost use Rattle.std.specs.Prelude.{◌≡◌, ◌+◌, ◌-◌, ◌≤◌, Some, All, IfOk, IfErr, List, [], length, string_bytes, ◌<◌};
+ghost use Rattle.std.specs.Prelude.{◌≡◌, ◌+◌, ◌-◌, ◌≤◌, Some, All, IfOk, IfErr, IsTrue, List, [], length, string_bytes, ◌<◌};
 ghost use Rattle.serde_json.specs.Data.{depth};
 ghost use Rattle.serde_json.specs.View.{view};
-ghost use Rattle.ref_yaml.specs.Values.{IsValue, IsYamlOf};
-ghost use Rattle.ref_yaml.specs.Events.{IsWithin, IsInPlace, IsStopWithin, are_apart, most_events};
+ghost use Rattle.ref_yaml.specs.Values.{IsTextStop, IsValue};
+ghost use Rattle.ref_yaml.specs.Events.{IsWithin, IsInPlace, IsStopWithin, are_apart, is_scalar, most_events};
 ghost use Rattle.ref_yaml.specs.Scalars as spec;
 ghost use Rattle.ref_yaml.specs.declared.event.Kind.TheVariants.{Plain, SingleQuoted, DoubleQuoted, Literal, Folded};
 
@@ -34,22 +34,6 @@ pub struct Document<'t> {
     ghost bound: { length events.items ≤ most_events (length text.now) },
 }
 
-/// The value of a text of one document of YAML 1.2.2. An empty one is null.
-///
-/// Of an object each key is a text that comes once; a number is read as `serde_json` reads it. An error is memory, or what
-/// is wrong and its offset in bytes. Linear in the text, but for aliases: they may make ten parts for each byte, and a
-/// million at least, each of eight bytes of text at most.
-pub fn from_str(alloc: Global, text: &str) -> Result<Value, Stop>
-    ensures tree { IfOk result (λ v. IsYamlOf text.now (view v)) }
-    ensures depth { IfOk result (λ v. depth (view v) ≤ 127) }
-    ensures fault { IfErr result (λ stop. IsStopWithin (length text.now) stop) }
-{
-    match Document::parse(alloc, text) {
-        Ok(document) => document.value(alloc),
-        Err(stop) => Err(stop),
-    }
-}
-
 // The events of a text with what aliases mean in their place.
 fn expanded(alloc: Global, text: &str, events: Vec<Event>) -> Result<Vec<Event>, Stop> {
     let mut linked = events;
@@ -61,7 +45,7 @@ impl<'t> Document<'t> {
     /// Reads a text of one document (9.1). A byte order mark at its beginning is passed over.
     ///
     /// An error is memory, or what is wrong in its structure and where. What is wrong in a scalar, as an escape or a
-    /// number, and a key that comes twice, [`Document::value`] finds. Linear in the text, but for aliases, as [`from_str`].
+    /// number, and a key that comes twice, [`Document::value`] finds. Linear in the text, but for aliases, as [`crate::from_str`].
     pub fn parse(alloc: Global, text: &'t str) -> Result<Document<'t>, Stop>
         ensures text { IfOk result (λ document. document.text.now ≡ text.now) }
         ensures fault { IfErr result (λ stop. IsStopWithin (length text.now) stop) }
@@ -132,7 +116,7 @@ impl<'t> Document<'t> {
         self.events.as_slice()
     }
 
-    /// Whether each event that has bytes begins after the end of those before it. It is so where neither an alias nor `<<` brings
+    /// Whether each event begins at the end of the one before it, or later. It is so where neither an alias nor `<<` brings
     /// events elsewhere.
     pub fn is_in_order(&self) -> bool
         ensures order { result ≡ are_apart 0 self.now.events.items }
@@ -145,8 +129,16 @@ impl<'t> Document<'t> {
         self.leniencies.as_slice()
     }
 
-    /// The text of a key or a scalar: folding (6.5), escapes (5.7), chomping and indentation (8.1). An error is memory or
-    /// an escape that there isn't, at the beginning of its text. Linear in the event's bytes.
+    /// The text that was read.
+    pub fn text(&self) -> &'t str
+        ensures value { result.now ≡ self.now.text.now }
+    {
+        self.text
+    }
+
+    /// The text of a key or a scalar: folding (6.5), escapes (5.7), chomping and indentation (8.1). An error is memory; an
+    /// escape that there isn't, at the beginning of its text; or that the event isn't within this text, or is no scalar.
+    /// Linear in the event's bytes.
     pub fn text_of(&self, alloc: Global, event: &Event) -> Result<String, Stop>
         ensures plain { IfOk result (λ s. event.now.kind ≡ Plain → string_bytes s
             ≡ spec.plain_text (spec.part self.now.text.now event.now.start event.now.end)) }
@@ -158,6 +150,8 @@ impl<'t> Document<'t> {
             → spec.IsLiteral self.now.text.now event.now.start event.now.end event.now.link (string_bytes s)) }
         ensures folded { IfOk result (λ s. event.now.kind ≡ Folded
             → spec.IsFolded self.now.text.now event.now.start event.now.end event.now.link (string_bytes s)) }
+        ensures scalar { IfOk result (λ _. IsTrue (is_scalar event.now.kind)) }
+        ensures refused { IfErr result (IsTextStop self.now.text.now event.now) }
     {
         text_of(alloc, self.text, event)
     }

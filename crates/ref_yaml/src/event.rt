@@ -1,6 +1,6 @@
 //! What a text has, in its order.
 ghost use Rattle.std.specs.Prelude.{◌≡◌, ◌≤◌, ◌↔◌, IsTrue, All};
-ghost use Rattle.ref_yaml.specs.Events.{IsWithin, IsInPlace, are_apart, has_ends, is_space, most_events, is_scalar as is_scalar_kind};
+ghost use Rattle.ref_yaml.specs.Events.{IsWithin, IsInPlace, are_apart, has_ends, is_between, is_space, may_begin, most_events, is_scalar as is_scalar_kind};
 
 use crate::number::byte_at;
 
@@ -154,10 +154,30 @@ fn has_ends(kind: Kind, first: u8, last: u8) -> bool
     }
 }
 
+fn is_between(byte: u8) -> bool
+    ensures value { result ≡ is_between byte }
+{
+    is_space(byte) || matches!(byte, b',' | b']' | b'}')
+}
+
+// Whether an event may begin at this byte.
+fn may_begin(kind: Kind, first: u8) -> bool
+    ensures value { result ≡ may_begin kind first }
+{
+    match kind {
+        Kind::BeginArray => first == b'[' || first == b'-',
+        Kind::BeginObject => !is_between(first),
+        _ => true,
+    }
+}
+
 // Whether an event begins at its first byte and ends after its last one.
 fn is_in_place(text: &[u8], event: &Event) -> bool
     ensures value { IsTrue result ↔ IsInPlace text.now event.now }
 {
+    if !may_begin(event.kind, byte_at(text, event.start)) {
+        return false;
+    }
     if event.start >= event.end {
         return true;
     }
@@ -171,18 +191,16 @@ pub(crate) fn are_in_place(text: &[u8], events: &[Event]) -> bool
     events.iter().all(|event| is_in_place(text, event))
 }
 
-// Whether events that have bytes lie one after another.
+// Whether events lie one after another.
 pub(crate) fn are_in_order(events: &[Event]) -> bool
     ensures value { result ≡ are_apart 0 events.now }
 {
     let mut last = 0;
     for event in events {
-        if event.start < event.end {
-            if event.start < last {
-                return false;
-            }
-            last = event.end;
+        if event.start < last {
+            return false;
         }
+        last = event.end;
     }
     true
 }

@@ -120,27 +120,32 @@ impl Expander<'_> {
     // The members of an object: its own, and then those of what it merges whose keys aren't there yet.
     #[cycle(emit)]
     fn members(&mut self, index: usize, depth: usize) -> Result<(), Stop> {
-        if !self.merges(index) {
+        if self.merge_key(index)?.is_none() {
             return self.items(index, depth);
         }
         let mut names = BTreeSet::new(self.alloc);
         self.merge(index, &mut names, depth, 127)
     }
 
-    // Whether an object has a key `<<`.
-    fn merges(&self, index: usize) -> bool {
+    // The index of an object's key `<<`, which comes once.
+    fn merge_key(&self, index: usize) -> Result<Option<usize>, Stop> {
         let end = self.event(index).link;
+        let mut found = None;
         let mut at = index.saturating_add(1);
         for _ in 0..self.events.len() {
             if at >= end {
                 break;
             }
-            if is_merge(self.text, &self.event(at)) {
-                return true;
+            let key = self.event(at);
+            if is_merge(self.text, &key) {
+                if found.is_some() {
+                    return Err(Stop::At(Fault::SameKey, key.start));
+                }
+                found = Some(at);
             }
             at = self.after(self.after(at));
         }
-        false
+        Ok(found)
     }
 
     // Adds the members of an object whose keys aren't there yet, its own before those that it merges.
@@ -153,19 +158,10 @@ impl Expander<'_> {
         levels: usize,
     ) -> Result<(), Stop> {
         self.own_members(index, names, depth, levels < 127)?;
-        let end = self.event(index).link;
-        let mut at = index.saturating_add(1);
-        for _ in 0..self.events.len() {
-            if at >= end {
-                break;
-            }
-            let value = self.after(at);
-            if is_merge(self.text, &self.event(at)) {
-                self.sources(value, names, depth, levels)?;
-            }
-            at = self.after(value);
+        match self.merge_key(index)? {
+            Some(key) => self.sources(self.after(key), names, depth, levels),
+            None => Ok(()),
         }
-        Ok(())
     }
 
     // Adds the members of an object but for `<<`: of one that is merged, those whose keys aren't there yet.
@@ -200,7 +196,11 @@ impl Expander<'_> {
 
     // Whether the key at an index isn't there yet, and adds it.
     fn is_new(&self, index: usize, names: &mut BTreeSet<String>) -> Result<bool, Stop> {
-        let name = text_of(self.alloc, self.text, &self.event(self.target(index)))?;
+        let key = self.event(self.target(index));
+        if !key.is_leaf() {
+            return Err(Stop::At(Fault::Key, self.event(index).start));
+        }
+        let name = text_of(self.alloc, self.text, &key)?;
         Ok(insert(names, name)?)
     }
 

@@ -34,7 +34,7 @@ pub enum Fault {
     Directive,
     /// A tag that is none of the core schema's, or one that doesn't fit its value (6.9.1, 10.3).
     Tag,
-    /// An anchor without a name, or a second anchor or tag of a value (6.9).
+    /// An anchor without a name, a second anchor or tag of a value, or one where none can be (6.9).
     Properties,
     /// An alias to an anchor that doesn't come before it (7.1).
     Alias,
@@ -48,6 +48,8 @@ pub enum Fault {
     Tab,
     /// A line that is indented less or more than what it is in (6.1).
     Indentation,
+    /// A line in brackets or in quotes that is indented too little (6.3, 7.4).
+    Shallow,
     /// A list or an object of a block that can't begin on this line (8.2).
     Block,
     /// No value begins so (7.3.3).
@@ -81,7 +83,7 @@ pub enum Fault {
 }
 
 // The names of faults, in their order.
-const NAMES: [&str; 25] = [
+const NAMES: [&str; 26] = [
     "character",
     "directive",
     "tag",
@@ -92,6 +94,7 @@ const NAMES: [&str; 25] = [
     "merge",
     "tab",
     "indentation",
+    "shallow",
     "block",
     "begin",
     "key",
@@ -110,17 +113,18 @@ const NAMES: [&str; 25] = [
 ];
 
 // What is wrong and what to do, by faults in their order.
-const ADVICE: [&str; 25] = [
+const ADVICE: [&str; 26] = [
     "Not YAML: a control character; write it as an escape in double quotes",
     "Not YAML that is read: of directives only %YAML 1.1 and 1.2, with --- on a line after it; remove others",
     "Not YAML that is read: a tag that isn't one of the core schema, or doesn't fit its value; remove it",
-    "Not YAML: a value has one anchor with a name and one tag at most; remove the others",
+    "Not YAML: an anchor and a tag come once each, before a value, with a space after them; before a list or an object of a block on a line of their own; an alias has none",
     "Not YAML: no anchor of this name comes before the alias; define it before",
     "Not YAML that is read: an alias to a value that holds it; write the value without it",
     "Not YAML that is read: aliases make more than ten parts for each byte of the file; write fewer of them",
     "Not YAML that is read: << merges an object or a list of objects; give it one, or write it in quotes",
     "Not YAML: a tab where a line is indented; use spaces",
     "Not YAML: this line begins at no column that is open; indent it as what it belongs to",
+    "Not YAML: a line in brackets or quotes that is indented too little; indent it further than the key or the dash that they belong to",
     "Not YAML: a list or an object can't begin here; begin it on a line of its own",
     "Not YAML: no value begins with this character; write the value in quotes",
     "Not YAML that is read: a list or an object as a key; JSON has texts alone",

@@ -19,7 +19,7 @@ impl Parser<'_> {
             return self.fault(Fault::Tab);
         }
         if self.byte() != closing || self.here.indent.saturating_add(1) != floor {
-            return self.fault(Fault::Indentation);
+            return self.fault(Fault::Shallow);
         }
         self.note(Leniency::Bracket(self.here.at))
     }
@@ -200,7 +200,7 @@ impl Parser<'_> {
         match self.byte() {
             b'[' | b'{' => self.flow_list(floor, own, depth),
             b',' | b']' | b'}' => self.push_empty(own),
-            b':' if self.is_flow_mark(b':') => self.push_empty(own),
+            b':' if self.is_flow_mark(b':') => self.push(own.with(Event::empty(self.here.at))),
             _ => {
                 let scalar = self.scan(floor, true)?;
                 self.end_scalar(own, scalar.event)

@@ -35,7 +35,9 @@ mod quoted;
 mod scalar;
 mod scan;
 mod text;
+mod value;
 
-pub use document::{Document, from_str};
+pub use document::Document;
 pub use event::{Event, Kind, NOWHERE, Tag};
 pub use fault::{Fault, Leniency, Stop};
+pub use value::from_str;

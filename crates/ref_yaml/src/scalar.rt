@@ -88,7 +88,7 @@ impl Parser<'_> {
             return Err(Stop::At(Fault::End, marker));
         }
         if let Some(outside) = lines.outside {
-            return Err(Stop::At(Fault::Indentation, outside.at));
+            return Err(Stop::At(Fault::Shallow, outside.at));
         }
         Ok(Scalar {
             event: Event::new(Kind::SingleQuoted, start, span.end.saturating_add(1)),
@@ -137,13 +137,14 @@ impl Parser<'_> {
 
     fn pass_properties(&mut self, after: usize) -> Result<Properties, Stop> {
         let mut own = Properties::none(after);
-        for _ in 0..2 {
+        for _ in 0..3 {
             if own.are_some() && self.is_line_over() {
                 break;
             }
             match self.byte() {
                 b'&' if own.anchor == NOWHERE => self.pass_anchor(&mut own)?,
                 b'!' if own.tag == Tag::None => self.pass_tag(&mut own)?,
+                b'&' | b'!' => return self.fault(Fault::Properties),
                 _ => break,
             }
         }

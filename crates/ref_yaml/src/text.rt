@@ -1,9 +1,11 @@
 //! The texts that scalars are.
-ghost use Rattle.std.specs.Prelude.{◌≡◌, ◌+◌, ◌-◌, ◌↔◌, [], false, Some, All, IsTrue, IfOk, IfSome, string_bytes, option_map};
+ghost use Rattle.std.specs.Prelude.{◌≡◌, ◌+◌, ◌-◌, ◌↔◌, [], false, Some, All, IsTrue, IfOk, IfErr, IfSome, string_bytes, option_map};
 ghost use Rattle.ref_yaml.specs.Block as spec_text;
+ghost use Rattle.ref_yaml.specs.Events.{is_scalar};
 ghost use Rattle.ref_yaml.specs.Flow.{with_feeds, folded};
 ghost use Rattle.ref_yaml.specs.Passing.{IsWithoutMark, IsNoReturn};
 ghost use Rattle.ref_yaml.specs.Scalars as spec;
+ghost use Rattle.ref_yaml.specs.Values.{IsNoText, IsTextStop};
 ghost use Rattle.ref_yaml.specs.declared.event.Kind.TheVariants.{Plain, SingleQuoted, DoubleQuoted, Literal, Folded};
 
 use crate::escape::unescaped;
@@ -107,6 +109,7 @@ fn double_text(alloc: Global, source: &[u8]) -> Result<Option<Vec<u8>>, AllocErr
 // Bytes as a text. They always are one.
 fn string_of(bytes: Vec<u8>, at: usize) -> Result<String, Stop>
     ensures value { IfOk result (λ s. string_bytes s ≡ bytes.items) }
+    ensures refused { IfErr result (IsNoText (λ s. s ≡ bytes.items)) }
 {
     match String::from_utf8(bytes) {
         Ok(text) => Ok(text),
@@ -114,39 +117,63 @@ fn string_of(bytes: Vec<u8>, at: usize) -> Result<String, Stop>
     }
 }
 
+// A copy of a text.
+fn copied(alloc: Global, line: &str) -> Result<String, Stop>
+    ensures value { IfOk result (λ s. string_bytes s ≡ line.now) }
+    ensures refused { IfErr result (IsNoText (λ s. s ≡ line.now)) }
+{
+    match String::from_str(alloc, line) {
+        Ok(text) => Ok(text),
+        Err(_) => Err(Stop::Memory),
+    }
+}
+
 // The text of a plain event.
 fn plain_of(alloc: Global, text: &str, start: usize, end: usize) -> Result<String, Stop>
     ensures value { IfOk result (λ s. string_bytes s
         ≡ spec.plain_text (spec.part text.now start end)) }
+    ensures refused { IfErr result (IsNoText (λ s.
+        s ≡ spec.plain_text (spec.part text.now start end))) }
 {
     if let Some(line) = line_of(text, start, end, b'\n') {
-        return Ok(String::from_str(alloc, line)?);
+        return copied(alloc, line);
     }
-    string_of(plain_text(alloc, part(text, start, end))?, start)
+    match plain_text(alloc, part(text, start, end)) {
+        Ok(bytes) => string_of(bytes, start),
+        Err(_) => Err(Stop::Memory),
+    }
 }
 
 // The text of an event in single quotes.
 fn single_of(alloc: Global, text: &str, start: usize, end: usize) -> Result<String, Stop>
     ensures value { IfOk result (λ s. string_bytes s
         ≡ spec.single_text (spec.part text.now start end)) }
+    ensures refused { IfErr result (IsNoText (λ s.
+        s ≡ spec.single_text (spec.part text.now start end))) }
 {
     if let Some(line) = line_of(text, start, end, b'\'') {
-        return Ok(String::from_str(alloc, line)?);
+        return copied(alloc, line);
     }
-    string_of(single_text(alloc, part(text, start, end))?, start)
+    match single_text(alloc, part(text, start, end)) {
+        Ok(bytes) => string_of(bytes, start),
+        Err(_) => Err(Stop::Memory),
+    }
 }
 
 // The text of an event in double quotes.
 fn double_of(alloc: Global, text: &str, start: usize, end: usize) -> Result<String, Stop>
     ensures value { IfOk result (λ s.
         spec.double_text (spec.part text.now start end) ≡ Some (string_bytes s)) }
+    ensures refused { IfErr result (IsNoText (λ s.
+        spec.double_text (spec.part text.now start end) ≡ Some s)) }
 {
     if let Some(line) = line_of(text, start, end, b'\\') {
-        return Ok(String::from_str(alloc, line)?);
+        return copied(alloc, line);
     }
-    match double_text(alloc, part(text, start, end))? {
-        Some(bytes) => string_of(bytes, start),
-        None => Err(Stop::At(Fault::Escape, start)),
+    match double_text(alloc, part(text, start, end)) {
+        Ok(Some(bytes)) => string_of(bytes, start),
+        Ok(None) => Err(Stop::At(Fault::Escape, start)),
+        Err(_) => Err(Stop::Memory),
     }
 }
 
@@ -188,25 +215,33 @@ fn folded_body(
 fn literal_of(alloc: Global, text: &str, event: &Event) -> Result<String, Stop>
     ensures value { IfOk result (λ s. spec.IsLiteral text.now
         event.now.start event.now.end event.now.link (string_bytes s)) }
+    ensures refused { IfErr result (IsNoText (spec.IsLiteral text.now
+        event.now.start event.now.end event.now.link)) }
 {
     let source = part(text, event.start, event.end);
     let chomping = chomping_of(source);
-    let bytes = literal_lines(alloc, after_header(source), event.link, chomping)?;
-    string_of(bytes, event.start)
+    match literal_lines(alloc, after_header(source), event.link, chomping) {
+        Ok(bytes) => string_of(bytes, event.start),
+        Err(_) => Err(Stop::Memory),
+    }
 }
 
 // The text of a folded event.
 fn folded_of(alloc: Global, text: &str, event: &Event) -> Result<String, Stop>
     ensures value { IfOk result (λ s. spec.IsFolded text.now
         event.now.start event.now.end event.now.link (string_bytes s)) }
+    ensures refused { IfErr result (IsNoText (spec.IsFolded text.now
+        event.now.start event.now.end event.now.link)) }
 {
     let source = part(text, event.start, event.end);
     let chomping = chomping_of(source);
-    let bytes = folded_body(alloc, after_header(source), event.link, chomping)?;
-    string_of(bytes, event.start)
+    match folded_body(alloc, after_header(source), event.link, chomping) {
+        Ok(bytes) => string_of(bytes, event.start),
+        Err(_) => Err(Stop::Memory),
+    }
 }
 
-/// The text of a scalar's event.
+/// The text of a scalar's event. No other has one.
 pub(crate) fn text_of(alloc: Global, text: &str, event: &Event) -> Result<String, Stop>
     ensures plain { IfOk result (λ s. event.now.kind ≡ Plain → string_bytes s
         ≡ spec.plain_text (spec.part text.now event.now.start event.now.end)) }
@@ -218,6 +253,8 @@ pub(crate) fn text_of(alloc: Global, text: &str, event: &Event) -> Result<String
         → spec.IsLiteral text.now event.now.start event.now.end event.now.link (string_bytes s)) }
     ensures folded { IfOk result (λ s. event.now.kind ≡ Folded
         → spec.IsFolded text.now event.now.start event.now.end event.now.link (string_bytes s)) }
+    ensures scalar { IfOk result (λ _. IsTrue (is_scalar event.now.kind)) }
+    ensures refused { IfErr result (IsTextStop text.now event.now) }
 {
     if event.start > event.end || event.end > text.len() {
         return Err(Stop::At(Fault::Offsets, event.start));
@@ -230,6 +267,6 @@ pub(crate) fn text_of(alloc: Global, text: &str, event: &Event) -> Result<String
         Kind::DoubleQuoted => double_of(alloc, text, inner, end),
         Kind::Literal => literal_of(alloc, text, event),
         Kind::Folded => folded_of(alloc, text, event),
-        _ => Ok(String::new(alloc)),
+        _ => Err(Stop::At(Fault::Offsets, event.start)),
     }
 }

@@ -5,11 +5,12 @@
 //! - the name of what is wrong in it, and where;
 //! - `"offsets"`, and a list of where its events begin;
 //! - `"leniencies"`, and how many there are;
+//! - `"json"`, and the value that `serde_json` reads in it;
 //! - `"part"` or `"json part"`, an offset, and the key or value there of the text as YAML or as JSON: its path, whether it is
 //!   a key, where it begins and where it ends;
 //! - `"unit"`, a list of a line and a column in units of UTF-16, and the offset, the line, the column and the unit there.
 //!
-//! Of a row that has nothing after its text the value is printed.
+//! Of a row that has nothing after its text the value is printed, and of one that has nothing after what it asks, the answer.
 //!
 //! Lines that are empty or begin with `//` are skipped.
 #![tactic(auto)]
@@ -71,11 +72,20 @@ fn part_of(alloc: Global, text: &str, asked: &str) -> Result<String, AllocError>
     }
 }
 
+/// What a text is as JSON, by `serde_json`.
+fn json_of(alloc: Global, text: &str) -> Result<String, AllocError> {
+    match Value::from_str(alloc, text) {
+        Ok(value) => value.to_string(alloc),
+        Err(_) => String::from_str(alloc, "no JSON"),
+    }
+}
+
 /// The answer to a row.
 fn answer(alloc: Global, text: &str, row: &Value) -> Result<String, AllocError> {
     match row.get(1).and_then(Value::as_str) {
         Some("offsets") => part_of(alloc, text, "offsets"),
         Some("leniencies") => part_of(alloc, text, "leniencies"),
+        Some("json") => json_of(alloc, text),
         Some("part") => part_there(alloc, Format::Yaml, text, row),
         Some("json part") => part_there(alloc, Format::Json, text, row),
         Some("unit") => unit_of(alloc, text, row),
@@ -83,34 +93,35 @@ fn answer(alloc: Global, text: &str, row: &Value) -> Result<String, AllocError> 
     }
 }
 
-/// The answer that a row expects.
-fn expected(alloc: Global, row: &Value) -> Result<String, AllocError> {
-    let Some(second) = row.get(1) else {
-        return String::from_str(alloc, "");
-    };
-    // What is asked at a place has its answer after the place.
-    let last = match second.as_str() {
-        Some("part" | "json part" | "unit") => row.get(3),
-        _ => row.get(2),
-    };
-    let Some(third) = last else {
-        return second.to_string(alloc);
-    };
-    let wanted = third.to_string(alloc)?;
-    match second.as_str() {
-        Some("offsets" | "leniencies" | "part" | "json part" | "unit") | None => Ok(wanted),
-        Some(name) => format!(in alloc; "{name} {wanted}"),
+/// Where a row has its answer: after its text, after what it asks, or after the place that it asks at.
+fn answer_place(row: &Value) -> usize {
+    match row.get(1).and_then(Value::as_str) {
+        Some("part" | "json part" | "unit") => 3,
+        Some("offsets" | "leniencies" | "json") => 2,
+        _ => 1,
     }
+}
+
+/// The answer that a row expects, where it has one.
+fn expected(alloc: Global, row: &Value) -> Result<Option<String>, AllocError> {
+    let place = answer_place(row);
+    let Some(wanted) = row.get(place) else {
+        return Ok(None);
+    };
+    if let (1, Some(name), Some(offset)) = (place, wanted.as_str(), row.get(2)) {
+        let offset = offset.to_string(alloc)?;
+        return Ok(Some(format!(in alloc; "{name} {offset}")?));
+    }
+    Ok(Some(wanted.to_string(alloc)?))
 }
 
 /// What is said of a row whose answer is another, or that expects none.
 fn difference(alloc: Global, row: &Value) -> Result<Option<String>, AllocError> {
     let text = row.get(0).and_then(Value::as_str).unwrap_or("");
-    if row.get(1).is_none() {
-        return Ok(Some(value_of(alloc, text)?));
-    }
-    let wanted = expected(alloc, row)?;
     let found = answer(alloc, text, row)?;
+    let Some(wanted) = expected(alloc, row)? else {
+        return Ok(Some(found));
+    };
     if found.as_str() == wanted.as_str() {
         return Ok(None);
     }

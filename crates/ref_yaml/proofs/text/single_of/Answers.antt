@@ -1,9 +1,17 @@
-use Rattle.std.proofs.Common.{ap, ◌∙◌}
-use Rattle.ref_yaml.specs.Scalars.{single_text}
+use Rattle.std.proofs.Common.{◌≡◌, ap, sym, ◌∙◌}
+use Rattle.std.proofs.lemmas.Result.{IfOk-weaker}
+use Rattle.ref_yaml.specs.Scalars.{part, single_text}
 use Rattle.ref_yaml.proofs.OneLine.{single_same}
+use Rattle.ref_yaml.proofs.Texts.{no_text_by}
 use Rattle.ref_yaml.proofs.text.single_of.Goals as goal
 
 pub returns-in-Some : goal.returns-in-Some
-returns-in-Some c = record {
-  value = c.in_ok-from_str.ensures.ok ∙ single_same c.in-Some.line.now c.in-Some.ensures.one_line ∙ ap single_text c.in-Some.ensures.value;
-}
+returns-in-Some c =
+    let is : c.in-Some.line.now ≡ single_text (part c.args.text.now c.args.start c.args.end) = single_same c.in-Some.line.now c.in-Some.ensures.one_line ∙ ap single_text c.in-Some.ensures.value in
+    record {
+      value = IfOk-weaker c.copied.result _ _ (λ s same. same ∙ is) c.copied.ensures.value;
+      refused = no_text_by c.copied.result (λ s. s ≡ c.in-Some.line.now) _ (λ s same. same ∙ sym is) c.copied.ensures.refused;
+    }
+
+pub returns-in-Ok-clause-refused : goal.returns-in-Ok-clause-refused
+returns-in-Ok-clause-refused c = no_text_by c.string_of.result (λ s. s ≡ c.in-Ok.bytes.items) _ (λ s same. same ∙ sym (c.in-Ok.ensures.value ∙ ap single_text c.part.ensures.value)) c.string_of.ensures.refused

@@ -6,31 +6,30 @@ use ref_configuration::Level as Set;
 use ref_files::{Exclusion, Exclusions, Failures};
 use ref_messages::{Chosen, Level, Plain, Suggester, level_in};
 use ref_workspace::RULES;
-use std::alloc::{AllocError, Global};
+use std::alloc::AllocError;
 
 /// The levels that rules are set to: by the configuration, then by its overrides for some files, and then by the command line.
 #[derive(Drop)]
-pub struct Levels<'a> {
-    alloc: Global,
-    first: Vec<Chosen<'a>>,
-    overrides: Vec<FileLevels<'a>>,
-    last: Vec<Chosen<'a>>,
+pub struct Levels {
+    first: Vec<Chosen<'static>>,
+    overrides: Vec<FileLevels>,
+    last: Vec<Chosen<'static>>,
 }
 
 // Levels of rules in some files.
 #[derive(Drop)]
-struct FileLevels<'a> {
+struct FileLevels {
     files: Exclusions,
-    choices: Vec<Chosen<'a>>,
+    choices: Vec<Chosen<'static>>,
 }
 
-impl<'a> Levels<'a> {
+impl Levels {
     /// What a configuration and a command line set. A rule that there isn't is said on standard error.
     pub fn of(
         rt: &HostRuntime,
-        given: &ArgMatches<'a>,
-        configured: &'a Configured,
-    ) -> Result<Levels<'a>, Stop> {
+        given: &ArgMatches<'_>,
+        configured: &Configured,
+    ) -> Result<Levels, Stop> {
         let configuration = &configured.configuration;
         let first = chosen_of(rt, configured, configuration.rules.as_slice())?;
         let mut overrides = Vec::new(rt.alloc());
@@ -41,7 +40,6 @@ impl<'a> Levels<'a> {
         }
         let last = choices_of(rt, given)?;
         Ok(Levels {
-            alloc: rt.alloc(),
             first,
             overrides,
             last,
@@ -92,10 +90,7 @@ impl<'a> Levels<'a> {
     }
 }
 
-fn push_levels<'a>(
-    list: &mut Vec<FileLevels<'a>>,
-    levels: FileLevels<'a>,
-) -> Result<(), AllocError> {
+fn push_levels(list: &mut Vec<FileLevels>, levels: FileLevels) -> Result<(), AllocError> {
     list.push(levels)?;
     Ok(())
 }
@@ -132,29 +127,23 @@ fn files_of(
 }
 
 // What a configuration sets rules to.
-fn chosen_of<'a>(
+fn chosen_of(
     rt: &HostRuntime,
     configured: &Configured,
-    levels: &'a [Set],
-) -> Result<Vec<Chosen<'a>>, Stop> {
+    levels: &[Set],
+) -> Result<Vec<Chosen<'static>>, Stop> {
     let mut choices = Vec::new(rt.alloc());
     for set in levels {
         let code = set.rule.as_str();
-        if !is_rule(code) {
+        let Some(own) = rule_named(code) else {
             let name = match &configured.name {
                 Some(name) => name.as_str(),
                 None => "",
             };
             say_unknown(rt, name, code)?;
             return Err(Stop::Reported);
-        }
-        push(
-            &mut choices,
-            Chosen {
-                code,
-                level: level_of(set.level.as_str()),
-            },
-        )?;
+        };
+        push(&mut choices, own, level_of(set.level.as_str()))?;
     }
     Ok(choices)
 }
@@ -168,34 +157,42 @@ fn level_of(name: &str) -> Option<Level> {
     }
 }
 
-fn choices_of<'a>(rt: &HostRuntime, given: &ArgMatches<'a>) -> Result<Vec<Chosen<'a>>, Stop> {
+fn choices_of(rt: &HostRuntime, given: &ArgMatches<'_>) -> Result<Vec<Chosen<'static>>, Stop> {
     let mut choices = Vec::new(rt.alloc());
     for text in list_of(rt.alloc(), given, "rule")? {
-        match Chosen::parse(text) {
-            Some(chosen) if is_rule(chosen.code) => push(&mut choices, chosen)?,
-            Some(chosen) => {
-                say_unknown(rt, text, chosen.code)?;
-                return Err(Stop::Reported);
-            }
-            None => {
-                let _ = eprintln!(rt;
-                    "patchsard: --rule {}: not of the form RULE=LEVEL, with error, warning, note or off as its level",
-                    Plain(text)
-                );
-                return Err(Stop::Reported);
-            }
-        }
+        let Some(chosen) = Chosen::parse(text) else {
+            let _ = eprintln!(rt;
+                "patchsard: --rule {}: not of the form RULE=LEVEL, with error, warning, note or off as its level",
+                Plain(text)
+            );
+            return Err(Stop::Reported);
+        };
+        let Some(own) = rule_named(chosen.code) else {
+            say_unknown(rt, text, chosen.code)?;
+            return Err(Stop::Reported);
+        };
+        push(&mut choices, own, chosen.level)?;
     }
     Ok(choices)
 }
 
-fn push<'a>(choices: &mut Vec<Chosen<'a>>, chosen: Chosen<'a>) -> Result<(), AllocError> {
-    choices.push(chosen)?;
+fn push(
+    choices: &mut Vec<Chosen<'static>>,
+    code: &'static str,
+    level: Option<Level>,
+) -> Result<(), AllocError> {
+    choices.push(Chosen { code, level })?;
     Ok(())
 }
 
-fn is_rule(code: &str) -> bool {
-    RULES.iter().any(|rule| rule.code == code)
+// The name of a rule, where there is one of this name.
+fn rule_named(code: &str) -> Option<&'static str> {
+    for rule in RULES {
+        if rule.code == code {
+            return Some(rule.code);
+        }
+    }
+    None
 }
 
 // Says that there is no such rule, and which may be meant.

@@ -1,0 +1,538 @@
+//! The documents below the client's folders, with those texts that it has open.
+use ref_command_line::say_failures;
+use ref_draft::Draft;
+use ref_files::{
+    DocumentText, Exclusion, Exclusions, Failures, Fault, File, Format, Maps, ReadFile, Selection,
+    file_uri, list_files, read_all, uri_below,
+};
+use ref_protocol::encoding::Encoding;
+use ref_protocol::paths::{below, is_hidden};
+use ref_uri::uri::from_str;
+use ref_uri::{Uri, UriFault};
+use ref_workspace::{Document, Workspace};
+use std::alloc::{AllocError, Global};
+use std::{fs, io};
+
+/// What a server is started with.
+#[derive(Drop)]
+pub struct Settings {
+    /// The URI that the files of a folder are under.
+    pub base: Option<String>,
+    /// The draft of documents that name none.
+    pub draft: Draft,
+    /// The files and folders that references may lead into.
+    pub with: Vec<String>,
+    /// The paths and patterns that are left out.
+    pub left_out: Vec<LeftOut>,
+    /// Whether what Git leaves out is left out.
+    pub has_ignore: bool,
+    /// Whether each file of YAML is read.
+    pub has_yaml: bool,
+}
+
+/// A path or a pattern that is left out.
+#[derive(Drop)]
+pub struct LeftOut {
+    /// The folder that it is from, or nothing for the working folder.
+    pub folder: String,
+    /// The path or the pattern.
+    pub text: String,
+}
+
+impl LeftOut {
+    // The same as `ref_files` has it.
+    fn as_exclusion(&self) -> Exclusion<'_> {
+        Exclusion {
+            folder: self.folder.as_str(),
+            text: self.text.as_str(),
+            is_path: false,
+            is_told: false,
+        }
+    }
+}
+
+/// A text that the client has open.
+#[derive(Drop)]
+pub struct OpenText {
+    /// Its URI, as the client has it.
+    pub uri: String,
+    /// The path that the URI means, or the URI where it means none.
+    pub path: String,
+    /// How it is written.
+    pub format: Format,
+    /// The text.
+    pub text: String,
+    /// Why it has no value, where an earlier text that has one counts for the other documents.
+    pub fault: Option<Fault>,
+    /// That earlier text.
+    pub sound: Option<String>,
+    /// The number of its document, where it is one.
+    pub number: Option<usize>,
+}
+
+/// The documents below the client's folders, with those texts that it has open.
+#[derive(Drop)]
+pub struct Desk<'r> {
+    /// What files are read by.
+    pub rt: &'r HostRuntime,
+    pub(crate) settings: Settings,
+    pub(crate) maps: Maps<'r>,
+    /// How positions count.
+    pub(crate) encoding: Encoding,
+    /// The paths of the client's folders.
+    pub(crate) folders: Vec<String>,
+    /// The texts that are open.
+    pub(crate) open: Vec<OpenText>,
+    /// The documents.
+    pub(crate) workspace: Workspace,
+    // The absolute paths without links of those that were read, by their numbers.
+    real: Vec<String>,
+    // Files of YAML that say at their roots neither what they are, nor is one referred to.
+    pub(crate) passed: Vec<ReadFile>,
+    // Whether files came or went.
+    pub(crate) is_stale: bool,
+    // Whether a text changed.
+    pub(crate) is_moved: bool,
+    // Whether the configuration changed.
+    pub(crate) is_reset: bool,
+}
+
+impl<'r> Desk<'r> {
+    /// No folders, and no texts.
+    pub fn new(rt: &'r HostRuntime, settings: Settings, maps: Maps<'r>) -> Desk<'r> {
+        let workspace = Workspace::new(rt.alloc(), settings.draft);
+        Desk {
+            rt,
+            settings,
+            maps,
+            encoding: Encoding::Utf16,
+            folders: Vec::new(rt.alloc()),
+            open: Vec::new(rt.alloc()),
+            workspace,
+            real: Vec::new(rt.alloc()),
+            passed: Vec::new(rt.alloc()),
+            is_stale: true,
+            is_moved: true,
+            is_reset: false,
+        }
+    }
+
+    /// Where memory is taken.
+    pub(crate) fn alloc(&self) -> Global {
+        self.rt.alloc()
+    }
+
+    // Reads all files again, and puts the open texts over them.
+    pub(crate) fn reopen(&mut self) -> Result<(), AllocError> {
+        self.is_moved = true;
+        self.workspace = Workspace::new(self.alloc(), self.settings.draft);
+        self.real.clear();
+        self.passed.clear();
+        self.read_folders()?;
+        for index in 0..self.open.len() {
+            self.place(index)?;
+        }
+        Ok(())
+    }
+
+    fn read_folders(&mut self) -> Result<(), AllocError> {
+        if self.folders.is_empty() {
+            return Ok(());
+        }
+        let rt = self.rt;
+        let selection = self.selection()?;
+        let listed = list_files(rt, &selection)?;
+        drop(selection);
+        say_failures(rt, &listed.failures);
+        let base = match &self.settings.base {
+            Some(base) => Some(base.as_str()),
+            None => None,
+        };
+        let read = read_all(rt, base, listed.files)?;
+        say_failures(rt, &read.failures);
+        let new = self.new_texts()?;
+        let mut next = 0;
+        for file in read.files {
+            if file.file.is_own {
+                next = self.place_until(new.as_slice(), next, file.file.shown.as_str())?;
+            }
+            self.enter(file)?;
+        }
+        self.passed = read.passed;
+        Ok(())
+    }
+
+    // The paths of the open texts that are no files, in byte order, as files are listed, each with its number among the open ones.
+    fn new_texts(&self) -> Result<Vec<(String, usize)>, AllocError> {
+        let mut new = Vec::new(self.alloc());
+        for (index, open) in self.open.iter().enumerate() {
+            if self.real_path(open.path.as_str())?.is_none() {
+                new.push((open.path.clone()?, index))?;
+            }
+        }
+        new.sort()?;
+        Ok(new)
+    }
+
+    // Places those of them, from a number on, that come before the file at a path, and returns the number of the next one.
+    fn place_until(
+        &mut self,
+        new: &[(String, usize)],
+        next: usize,
+        path: &str,
+    ) -> Result<usize, AllocError> {
+        let mut next = next;
+        for _ in 0..new.len() {
+            match new.get(next) {
+                Some((own, index)) if own.as_str() < path => self.place(*index)?,
+                _ => break,
+            }
+            next = next.saturating_add(1);
+        }
+        Ok(next)
+    }
+
+    fn selection(&self) -> Result<Selection<'_>, AllocError> {
+        let alloc = self.alloc();
+        let mut paths = Vec::new(alloc);
+        for folder in &self.folders {
+            paths.push(folder.as_str())?;
+        }
+        let mut with = Vec::new(alloc);
+        for path in &self.settings.with {
+            with.push(path.as_str())?;
+        }
+        let mut excluded = Vec::new(alloc);
+        for left_out in &self.settings.left_out {
+            excluded.push(left_out.as_exclusion())?;
+        }
+        Ok(Selection {
+            paths,
+            with,
+            excluded,
+            has_ignore: self.settings.has_ignore,
+            input: "-",
+            has_yaml: self.settings.has_yaml,
+        })
+    }
+
+    // Opens a file as a document, and returns its number: one that is asked about comes after those that are, and another after all.
+    pub(crate) fn enter(&mut self, file: ReadFile) -> Result<usize, AllocError> {
+        let ReadFile { file, uri, text } = file;
+        let File {
+            shown,
+            path,
+            is_own,
+            ..
+        } = file;
+        let document = Document {
+            name: shown,
+            uri,
+            text,
+        };
+        if is_own {
+            self.enter_own(path, document)
+        } else {
+            let number = self.workspace.opened();
+            self.real.push(path)?;
+            self.workspace.open_beside(document)?;
+            Ok(number)
+        }
+    }
+
+    // Opens a document that is asked about, of the file at a path.
+    fn enter_own(&mut self, path: String, document: Document) -> Result<usize, AllocError> {
+        let number = self.workspace.asked();
+        self.real.insert(number.min(self.real.len()), path)?;
+        for open in &mut self.open {
+            if let Some(other) = open.number {
+                if number <= other {
+                    open.number = Some(other.saturating_add(1));
+                }
+            }
+        }
+        self.workspace.open(document)?;
+        Ok(number)
+    }
+
+    /// The absolute path of the file of the document with a number.
+    pub(crate) fn path_of(&self, number: usize) -> &str {
+        match self.real.get(number) {
+            Some(path) => path.as_str(),
+            None => "",
+        }
+    }
+
+    /// Finds the document of an open text, and puts the text in place of the file's; or makes it a document, where it may be one.
+    pub(crate) fn place(&mut self, index: usize) -> Result<(), AllocError> {
+        let number = match self.open.get(index) {
+            Some(open) => self.find(open.path.as_str())?,
+            None => return Ok(()),
+        };
+        let number = match number {
+            Some(number) => Some(number),
+            None => self.place_new(index)?,
+        };
+        if let Some(open) = self.open.get_mut(index) {
+            open.number = number;
+        }
+        match number {
+            Some(number) => self.put(index, number),
+            None => Ok(()),
+        }
+    }
+
+    // The number of the document at a path.
+    pub(crate) fn find(&self, path: &str) -> Result<Option<usize>, AllocError> {
+        for (number, document) in self.workspace.asked_about().iter().enumerate() {
+            if document.name.as_str() == path {
+                return Ok(Some(number));
+            }
+        }
+        match self.real_path(path)? {
+            Some(path) => Ok(
+                self.real
+                    .iter()
+                    .position(|real| real.as_str() == path.as_str()),
+            ),
+            None => Ok(None),
+        }
+    }
+
+    // A path without links, where something is there.
+    fn real_path(&self, path: &str) -> Result<Option<String>, AllocError> {
+        match fs::canonicalize(self.rt, path) {
+            Ok(real) => Ok(Some(real.into_string())),
+            Err(error) if error.kind() == io::ErrorKind::OutOfMemory => Err(AllocError),
+            Err(_) => Ok(None),
+        }
+    }
+
+    // Makes an open text a document, where it may be one.
+    fn place_new(&mut self, index: usize) -> Result<Option<usize>, AllocError> {
+        let alloc = self.alloc();
+        let Some(open) = self.open.get(index) else {
+            return Ok(None);
+        };
+        let path = open.path.clone()?;
+        let is_marked = open.format == Format::Json || is_marked(open.text.as_str());
+        if let Some(place) = self.passed_at(path.as_str())? {
+            if is_marked && place < self.passed.len() {
+                let file = self.passed.remove(place);
+                return Ok(Some(self.enter(file)?));
+            }
+            return Ok(None);
+        }
+        if !is_marked || self.is_left_out(path.as_str())? {
+            return Ok(None);
+        }
+        let Some(uri) = self.uri_at(path.as_str())? else {
+            return Ok(None);
+        };
+        let format = self
+            .open
+            .get(index)
+            .map_or(Format::Json, |open| open.format);
+        let text = DocumentText::new(alloc, format, String::from_str(alloc, "{}")?)?;
+        let name = path.clone()?;
+        // Its place is among the files: all are listed again before it is judged.
+        self.is_stale = true;
+        let number = self.enter_own(path, Document { name, uri, text })?;
+        self.unseat(index, number)?;
+        Ok(Some(number))
+    }
+
+    // Puts the text of a new document in place of none: where it has no value, nothing counts in its place.
+    fn unseat(&mut self, index: usize, number: usize) -> Result<(), AllocError> {
+        let alloc = self.alloc();
+        let Some(open) = self.open.get(index) else {
+            return Ok(());
+        };
+        let text = DocumentText::new(alloc, open.format, open.text.clone()?)?;
+        self.workspace.replace(number, text);
+        Ok(())
+    }
+
+    fn passed_at(&self, path: &str) -> Result<Option<usize>, AllocError> {
+        let real = self.real_path(path)?;
+        for (place, passed) in self.passed.iter().enumerate() {
+            if passed.file.shown.as_str() == path {
+                return Ok(Some(place));
+            }
+            if let Some(real) = &real {
+                if passed.file.path.as_str() == real.as_str() {
+                    return Ok(Some(place));
+                }
+            }
+        }
+        Ok(None)
+    }
+
+    // Whether a file isn't among the documents though it may be one: it is excluded, or in a hidden folder.
+    fn is_left_out(&self, path: &str) -> Result<bool, AllocError> {
+        let mut failures = Failures::new(self.alloc());
+        let mut exclusions = Exclusions::new(self.alloc());
+        for left_out in &self.settings.left_out {
+            exclusions.add(self.rt, &mut failures, left_out.as_exclusion())?;
+        }
+        if exclusions.has(path)? {
+            return Ok(true);
+        }
+        for folder in &self.folders {
+            if let Some(below) = below(folder.as_str(), path) {
+                return Ok(is_hidden(below));
+            }
+        }
+        Ok(false)
+    }
+
+    // The URI of the document at a path, where it has one.
+    fn uri_at(&self, path: &str) -> Result<Option<Uri>, AllocError> {
+        let alloc = self.alloc();
+        if !path.starts_with('/') {
+            return parsed_uri(alloc, path);
+        }
+        if let Some(base) = &self.settings.base {
+            for folder in &self.folders {
+                if let Some(below) = below(folder.as_str(), path) {
+                    return parsed_uri(alloc, uri_below(alloc, base.as_str(), below)?.as_str());
+                }
+            }
+        }
+        parsed_uri(alloc, file_uri(alloc, path)?.as_str())
+    }
+
+    /// Puts an open text in place of that of the document with a number. One that has no value is kept aside where the document has one.
+    pub(crate) fn put(&mut self, index: usize, number: usize) -> Result<(), AllocError> {
+        self.is_moved = true;
+        let alloc = self.alloc();
+        let Some(open) = self.open.get(index) else {
+            return Ok(());
+        };
+        let made = DocumentText::new(alloc, open.format, open.text.clone()?)?;
+        if made.fault().is_none() {
+            self.workspace.replace(number, made);
+            self.keep_fault(index, None, None);
+            return Ok(());
+        }
+        self.put_sound(index, number)?;
+        let Some(sound) = self.sound_of(number)? else {
+            self.workspace.replace(number, made);
+            self.keep_fault(index, None, None);
+            return Ok(());
+        };
+        let DocumentText { value, .. } = made;
+        if let Err(fault) = value {
+            self.keep_fault(index, Some(fault), Some(sound));
+        }
+        Ok(())
+    }
+
+    // Puts the last text with a value in place of the file's.
+    fn put_sound(&mut self, index: usize, number: usize) -> Result<(), AllocError> {
+        let alloc = self.alloc();
+        let Some(open) = self.open.get(index) else {
+            return Ok(());
+        };
+        let Some(sound) = &open.sound else {
+            return Ok(());
+        };
+        let text = DocumentText::new(alloc, open.format, sound.clone()?)?;
+        self.workspace.replace(number, text);
+        Ok(())
+    }
+
+    // The text of the document with a number, where it has a value.
+    fn sound_of(&self, number: usize) -> Result<Option<String>, AllocError> {
+        match self.workspace.documents().get(number) {
+            Some(document) if document.value().is_some() => {
+                Ok(Some(document.text.text.clone()?))
+            }
+            _ => Ok(None),
+        }
+    }
+
+    fn keep_fault(&mut self, index: usize, fault: Option<Fault>, sound: Option<String>) {
+        if let Some(open) = self.open.get_mut(index) {
+            open.fault = fault;
+            open.sound = sound;
+        }
+    }
+
+    /// The text of the document with a number, as the client has it, and how it is written.
+    pub(crate) fn text_of(&self, number: usize) -> (Format, &str) {
+        for open in &self.open {
+            if open.number == Some(number) {
+                return (open.format, open.text.as_str());
+            }
+        }
+        match self.workspace.documents().get(number) {
+            Some(document) => (document.text.format, document.text.text.as_str()),
+            None => (Format::Json, ""),
+        }
+    }
+
+    /// Why the open text of the document with a number has no value, where an earlier one counts.
+    pub(crate) fn fault_of(&self, number: usize) -> Option<&Fault> {
+        for open in &self.open {
+            if open.number == Some(number) {
+                return open.fault.as_ref();
+            }
+        }
+        None
+    }
+
+    /// The URI of the document with a number, as the client has it.
+    pub(crate) fn client_uri(&self, number: usize) -> Result<String, AllocError> {
+        for open in &self.open {
+            if open.number == Some(number) {
+                return open.uri.clone();
+            }
+        }
+        let name = self.workspace.name(number);
+        if name.starts_with('/') {
+            return file_uri(self.alloc(), name);
+        }
+        String::from_str(self.alloc(), name)
+    }
+
+    /// The number of the document with a URI of the client.
+    pub(crate) fn number_of(&self, uri: &str) -> Result<Option<usize>, AllocError> {
+        for open in &self.open {
+            if open.uri.as_str() == uri {
+                return Ok(open.number);
+            }
+        }
+        match ref_protocol::paths::path_of(self.alloc(), uri)? {
+            Some(path) => self.find(path.as_str()),
+            None => Ok(None),
+        }
+    }
+}
+
+fn parsed_uri(alloc: Global, text: &str) -> Result<Option<Uri>, AllocError> {
+    match from_str(alloc, text) {
+        Ok(uri) => Ok(Some(uri)),
+        Err(UriFault::Memory(error)) => Err(error),
+        Err(UriFault::Invalid(error)) => {
+            drop(error);
+            Ok(None)
+        }
+    }
+}
+
+// The keys of which a schema or a description of an API has one at its root.
+const MARKS: [&str; 5] = ["$schema", "$id", "id", "openapi", "swagger"];
+
+// Whether a text of YAML says at its root what it is: a line of it begins with such a key and a colon, in quotes or without.
+fn is_marked(text: &str) -> bool {
+    for line in text.split('\n') {
+        if let Some((key, _)) = line.split_once(':') {
+            let key = key.trim_matches('"').trim_matches('\'');
+            if MARKS.contains(&key) {
+                return true;
+            }
+        }
+    }
+    false
+}

@@ -1,0 +1,362 @@
+//! What is wrong with the documents, in the protocol's words.
+use crate::desk::{Desk, OpenText};
+use crate::shown::Rules;
+use ref_files::{Fault, Format, uri_below};
+use ref_findings::Problem;
+use ref_messages::{Level, Message, Other};
+use ref_outline::spans::{offset_of, token_end};
+use ref_protocol::encoding::place_at;
+use ref_protocol::pieces::{Range, push_comma, push_location, push_number, push_range, push_text};
+use ref_workspace::{Describer, Finding, Silences};
+use serde_json::Value;
+use std::alloc::{AllocError, Global};
+use std::collections::BTreeMap;
+
+/// A change that mends a reference.
+#[derive(Drop)]
+pub struct Fix {
+    /// The URI of its document.
+    pub uri: String,
+    /// What is replaced.
+    pub range: Range,
+    /// What comes in its place.
+    pub text: String,
+    /// What is meant.
+    pub meant: String,
+    /// What is wrong, as it is published.
+    pub diagnostic: String,
+}
+
+/// What is wrong with the documents.
+#[derive(Drop)]
+pub struct Judged {
+    /// The lists of diagnostics in JSON, without the end of the list, by the URIs of the documents that have some.
+    pub lists: BTreeMap<String, String>,
+    /// The changes that mend something.
+    pub fixes: Vec<Fix>,
+}
+
+/// What is wrong with the documents of a desk.
+pub fn judge(desk: &Desk<'_>, rules: &mut Rules) -> Result<Judged, AllocError> {
+    let alloc = desk.alloc();
+    let mut judged = Judged {
+        lists: BTreeMap::new(alloc),
+        fixes: Vec::new(alloc),
+    };
+    let report = desk.workspace.full_report(alloc)?;
+    let findings = report.findings.as_slice();
+    let has_unchecked = rules.levels.has("unchecked-reference");
+    let mut silences = Silences::of(alloc, &desk.workspace)?;
+    let mut describer = Describer::new(alloc, &desk.workspace, findings, has_unchecked)?;
+    for place in 0..describer.len() {
+        judged.add_at(desk, rules, &mut silences, &mut describer, place)?;
+    }
+    drop(describer);
+    for open in &desk.open {
+        judged.add_open(desk, rules, open)?;
+    }
+    Ok(judged)
+}
+
+// The level of a finding with a message on it: nothing where it isn't shown.
+fn level_of(
+    desk: &Desk<'_>,
+    rules: &mut Rules,
+    silences: &mut Silences<'_>,
+    finding: &Finding<'_>,
+    message: &Message<'_>,
+) -> Result<Option<Level>, AllocError> {
+    let path = desk.path_of(finding.source);
+    let level = rules.level(path, message.code, message.level)?;
+    if level.is_some() && silences.has(finding, message.line, message.code)? {
+        return Ok(None);
+    }
+    Ok(level)
+}
+
+// What a text of a document is replaced by.
+#[derive(Drop)]
+struct Mended {
+    start: usize,
+    end: usize,
+    text: String,
+}
+
+impl Judged {
+    // Adds what is found at a place of the list, unless it isn't shown, or is in a text that has been left.
+    fn add_at(
+        &mut self,
+        desk: &Desk<'_>,
+        rules: &mut Rules,
+        silences: &mut Silences<'_>,
+        describer: &mut Describer<'_, '_>,
+        place: usize,
+    ) -> Result<(), AllocError> {
+        let Some(finding) = describer.finding(place) else {
+            return Ok(());
+        };
+        if desk.fault_of(finding.source).is_some() {
+            return Ok(());
+        }
+        let Some(mut message) = describer.message(place)? else {
+            return Ok(());
+        };
+        let added = match level_of(desk, rules, silences, finding, &message) {
+            Ok(Some(level)) => {
+                message.level = level;
+                message.help = describer.help(place)?;
+                self.add(desk, finding, &message)
+            }
+            Ok(None) => Ok(()),
+            Err(error) => Err(error),
+        };
+        drop(message);
+        added
+    }
+
+    // Adds that an open text has no value, where it has none.
+    fn add_open(
+        &mut self,
+        desk: &Desk<'_>,
+        rules: &mut Rules,
+        open: &OpenText,
+    ) -> Result<(), AllocError> {
+        let (Some(number), Some(fault)) = (open.number, &open.fault) else {
+            return Ok(());
+        };
+        let code = match open.format {
+            Format::Json => "not-json",
+            Format::Yaml => "not-yaml",
+        };
+        match rules.level(desk.path_of(number), code, Level::Error)? {
+            Some(level) => self.add_fault(desk, number, (code, level), fault),
+            None => Ok(()),
+        }
+    }
+
+    fn add(
+        &mut self,
+        desk: &Desk<'_>,
+        finding: &Finding<'_>,
+        message: &Message<'_>,
+    ) -> Result<(), AllocError> {
+        let alloc = desk.alloc();
+        let uri = desk.client_uri(finding.source)?;
+        let (format, text) = desk.text_of(finding.source);
+        let start = offset_of(text, message.line, message.column);
+        let end = token_end(text, start);
+        let range = range_of(desk, text, start, end);
+        let said = said(alloc, message)?;
+        let mut out = String::new(alloc);
+        push_head(alloc, &mut out, range, message, said.as_str())?;
+        if let Some(first) = &message.first {
+            push_first(desk, &mut out, first)?;
+        }
+        out.push('}')?;
+        if let Some(mended) = mended_in(alloc, finding, message, (format, text), (start, end))? {
+            let diagnostic = out.clone()?;
+            self.add_fix(desk, uri.clone()?, text, mended, message, diagnostic)?;
+        }
+        self.push(alloc, uri, out.as_str())
+    }
+
+    fn add_fix(
+        &mut self,
+        desk: &Desk<'_>,
+        uri: String,
+        text: &str,
+        mended: Mended,
+        message: &Message<'_>,
+        diagnostic: String,
+    ) -> Result<(), AllocError> {
+        let alloc = desk.alloc();
+        let range = range_of(desk, text, mended.start, mended.end);
+        let meant = match &message.suggestion {
+            Some(meant) => meant.clone()?,
+            None => String::new(alloc),
+        };
+        self.fixes.push(Fix {
+            uri,
+            range,
+            text: mended.text,
+            meant,
+            diagnostic,
+        })?;
+        Ok(())
+    }
+
+    // Adds that the text of a document has no value.
+    fn add_fault(
+        &mut self,
+        desk: &Desk<'_>,
+        number: usize,
+        (code, level): (&str, Level),
+        fault: &Fault,
+    ) -> Result<(), AllocError> {
+        let alloc = desk.alloc();
+        let (_, text) = desk.text_of(number);
+        let start = offset_of(text, fault.line, fault.column);
+        let range = range_of(desk, text, start, token_end(text, start));
+        let mut out = String::new(alloc);
+        push_range(&mut out, "{\"range\":", range)?;
+        push_number(&mut out, ",\"severity\":", severity_of(level))?;
+        push_text(alloc, &mut out, ",\"code\":", code)?;
+        push_text(
+            alloc,
+            &mut out,
+            ",\"source\":\"patchsard\",\"message\":",
+            fault.text.as_str(),
+        )?;
+        out.push('}')?;
+        let uri = desk.client_uri(number)?;
+        self.push(alloc, uri, out.as_str())
+    }
+
+    // Adds a diagnostic to the list of a document.
+    fn push(&mut self, alloc: Global, uri: String, diagnostic: &str) -> Result<(), AllocError> {
+        if let Some(list) = self.lists.get_mut(uri.as_str()) {
+            push_comma(list)?;
+            return list.push_str(diagnostic);
+        }
+        let mut list = String::from_str(alloc, "[")?;
+        list.push_str(diagnostic)?;
+        self.lists.insert(uri, list)?;
+        Ok(())
+    }
+}
+
+/// The range between two offsets.
+pub fn range_of(desk: &Desk<'_>, text: &str, start: usize, end: usize) -> Range {
+    (
+        place_at(text, start, desk.encoding),
+        place_at(text, end, desk.encoding),
+    )
+}
+
+fn severity_of(level: Level) -> usize {
+    match level {
+        Level::Error => 1,
+        Level::Warning => 2,
+        Level::Note => 3,
+    }
+}
+
+fn push_head(
+    alloc: Global,
+    out: &mut String,
+    range: Range,
+    message: &Message<'_>,
+    said: &str,
+) -> Result<(), AllocError> {
+    push_range(out, "{\"range\":", range)?;
+    push_number(out, ",\"severity\":", severity_of(message.level))?;
+    push_text(alloc, out, ",\"code\":", message.code)?;
+    push_text(alloc, out, ",\"source\":\"patchsard\",\"message\":", said)?;
+    if message.code.starts_with("unused") {
+        out.push_str(",\"tags\":[1]")?;
+    }
+    Ok(())
+}
+
+// What a message says, in one text.
+fn said(alloc: Global, message: &Message<'_>) -> Result<String, AllocError> {
+    let mut text = message.text.clone()?;
+    if let Some(resolved) = &message.resolved {
+        let keyword = message.keyword.unwrap_or("");
+        let reference = message.reference.unwrap_or("");
+        write!(text, "\n{keyword} '{reference}' is {resolved}")?;
+    }
+    if let Some(suggestion) = &message.suggestion {
+        write!(text, "\ndid you mean '{suggestion}'?")?;
+    }
+    if let Some(help) = &message.help {
+        write!(text, "\nhelp: {help}")?;
+    }
+    let _ = alloc;
+    Ok(text)
+}
+
+fn push_first(desk: &Desk<'_>, out: &mut String, first: &Other) -> Result<(), AllocError> {
+    let alloc = desk.alloc();
+    let documents = desk.workspace.documents();
+    let Some(number) = documents
+        .iter()
+        .position(|other| other.name.as_str() == first.file.as_str())
+    else {
+        return Ok(());
+    };
+    let (_, text) = desk.text_of(number);
+    let start = offset_of(text, first.line, first.column);
+    let range = range_of(desk, text, start, token_end(text, start));
+    out.push_str(",\"relatedInformation\":[{\"location\":")?;
+    push_location(alloc, out, desk.client_uri(number)?.as_str(), range)?;
+    out.push_str(",\"message\":\"first\"}]")
+}
+
+// What mends a reference, where something is meant.
+fn mended_in(
+    alloc: Global,
+    finding: &Finding<'_>,
+    message: &Message<'_>,
+    (format, text): (Format, &str),
+    (start, end): (usize, usize),
+) -> Result<Option<Mended>, AllocError> {
+    let (Some(meant), Some(reference)) = (&message.suggestion, message.reference) else {
+        return Ok(None);
+    };
+    let new = match finding.problem.plain() {
+        Some(Problem::LeadsNowhere { .. }) => with_fragment(alloc, reference, meant.as_str())?,
+        Some(Problem::MissingDocument { .. }) => meant.clone()?,
+        _ => return Ok(None),
+    };
+    let text = written(
+        alloc,
+        format,
+        text.get(start..end).unwrap_or(""),
+        new.as_str(),
+    )?;
+    Ok(Some(Mended { start, end, text }))
+}
+
+// A reference with another fragment.
+fn with_fragment(alloc: Global, reference: &str, fragment: &str) -> Result<String, AllocError> {
+    let front = match reference.split_once('#') {
+        Some((front, _)) => front,
+        None => reference,
+    };
+    let fragment = as_fragment(alloc, fragment)?;
+    format!(in alloc; "{front}#{fragment}")
+}
+
+/// A pointer or the name of an anchor as a fragment, percent-encoded (RFC 3986, 3.5).
+pub fn as_fragment(alloc: Global, text: &str) -> Result<String, AllocError> {
+    match text.strip_prefix('/') {
+        Some(rest) => uri_below(alloc, "", rest),
+        None => String::from_str(alloc, text),
+    }
+}
+
+/// A text as a scalar of a document that is written so, in the quotes of another scalar.
+pub fn written(
+    alloc: Global,
+    format: Format,
+    token: &str,
+    text: &str,
+) -> Result<String, AllocError> {
+    if format == Format::Yaml && token.starts_with('\'') && !text.contains('\'') {
+        return format!(in alloc; "'{text}'");
+    }
+    if format == Format::Yaml && !token.starts_with('"') && is_plain(text) {
+        return String::from_str(alloc, text);
+    }
+    Value::String(String::from_str(alloc, text)?).to_string(alloc)
+}
+
+// Whether a text of YAML needs no quotes.
+fn is_plain(text: &str) -> bool {
+    let begins = text.starts_with(|c: char| c.is_ascii_alphabetic() || c == '.' || c == '/');
+    begins
+        && text
+            .chars()
+            .all(|c| c.is_ascii_alphanumeric() || "-._~/#%".contains(c))
+}

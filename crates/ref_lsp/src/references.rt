@@ -1,0 +1,154 @@
+//! Which references lead to a place.
+use crate::asked::{Asked, asked_place, mapped, target_of};
+use crate::definition::{followed, number_of};
+use crate::desk::Desk;
+use crate::judged::range_of;
+use ref_outline::Outline;
+use ref_protocol::pieces::{push_comma, push_location};
+use ref_protocol::refusal::Refusal;
+use ref_workspace::View;
+use ref_workspace::follow::Start;
+use ref_workspace::referring::{Referring, references_in};
+use serde_json::Value;
+use std::alloc::AllocError;
+
+// A place of a document.
+#[derive(Drop)]
+struct Place {
+    number: usize,
+    pointer: String,
+}
+
+/// `textDocument/references`: each text that leads to the place, or to where the reference there leads; and that place itself where
+/// it is asked for.
+pub fn references(desk: &Desk<'_>, view: &View<'_, '_>, params: &Value) -> Result<String, Refusal> {
+    let alloc = desk.alloc();
+    let mut out = String::from_str(alloc, "[")?;
+    if let Some(asked) = asked_place(desk, params)? {
+        let place = place_of(desk, view, asked)?;
+        let is_with = params
+            .pointer("/context/includeDeclaration")
+            .and_then(Value::as_bool);
+        if is_with == Some(true) {
+            if let Some(target) = target_of(desk, place.number, place.pointer.as_str())? {
+                push_location(alloc, &mut out, target.uri.as_str(), target.name)?;
+            }
+        }
+        push_all(desk, view, &place, &mut out)?;
+    }
+    out.push(']')?;
+    Ok(out)
+}
+
+// The keys whose text names the object that has it.
+const NAMES: [&str; 5] = ["$id", "id", "$anchor", "$dynamicAnchor", "$recursiveAnchor"];
+
+// The place whose references are asked for.
+fn place_of(desk: &Desk<'_>, view: &View<'_, '_>, asked: Asked) -> Result<Place, AllocError> {
+    let alloc = desk.alloc();
+    if let Some(reference) = asked.reference(desk)? {
+        let start = Start {
+            number: asked.number,
+            pointer: asked.pointer.as_str(),
+        };
+        if let Some(found) = followed(alloc, view, start, reference.as_str())? {
+            if let Some(number) = number_of(view, &found) {
+                return Ok(Place {
+                    number,
+                    pointer: found.pointer,
+                });
+            }
+        }
+    }
+    let is_name = NAMES.iter().any(|name| asked.is_under(*name));
+    let Asked {
+        number,
+        pointer,
+        ..
+    } = asked;
+    if is_name {
+        if let Some((front, _)) = pointer.as_str().rsplit_once('/') {
+            let pointer = String::from_str(alloc, front)?;
+            return Ok(Place { number, pointer });
+        }
+    }
+    Ok(Place { number, pointer })
+}
+
+// Adds each text that leads to a place.
+fn push_all(
+    desk: &Desk<'_>,
+    view: &View<'_, '_>,
+    place: &Place,
+    out: &mut String,
+) -> Result<(), AllocError> {
+    for number in 0..desk.workspace.documents().len() {
+        push_in(desk, view, place, number, out)?;
+    }
+    Ok(())
+}
+
+// Adds those of a document.
+fn push_in(
+    desk: &Desk<'_>,
+    view: &View<'_, '_>,
+    place: &Place,
+    number: usize,
+    out: &mut String,
+) -> Result<(), AllocError> {
+    let alloc = desk.alloc();
+    let Some(root) = desk.workspace.value(number) else {
+        return Ok(());
+    };
+    let mut pointers = Vec::new(alloc);
+    for referring in references_in(alloc, root)? {
+        if leads_to(desk, view, &referring, number, place)? {
+            let Referring { pointer, .. } = referring;
+            pointers.push(pointer)?;
+        }
+    }
+    if pointers.is_empty() {
+        return Ok(());
+    }
+    let (format, text) = desk.text_of(number);
+    let outline = Outline::of(alloc, format, text)?;
+    let uri = desk.client_uri(number)?;
+    for pointer in &pointers {
+        if let Some(node) = outline.at(pointer.as_str()) {
+            push_comma(out)?;
+            let range = range_of(desk, text, node.start, node.end);
+            push_location(alloc, out, uri.as_str(), range)?;
+        }
+    }
+    Ok(())
+}
+
+/// The text that is followed for one that refers to something.
+pub fn meant(
+    desk: &Desk<'_>,
+    number: usize,
+    referring: &Referring<'_>,
+) -> Result<String, AllocError> {
+    if referring.is_mapped {
+        return mapped(desk, number, referring.text);
+    }
+    String::from_str(desk.alloc(), referring.text)
+}
+
+fn leads_to(
+    desk: &Desk<'_>,
+    view: &View<'_, '_>,
+    referring: &Referring<'_>,
+    number: usize,
+    place: &Place,
+) -> Result<bool, AllocError> {
+    let reference = meant(desk, number, referring)?;
+    let start = referring.start(number);
+    let Some(found) = followed(desk.alloc(), view, start, reference.as_str())? else {
+        return Ok(false);
+    };
+    Ok(
+        number_of(view, &found) == Some(place.number)
+            && found.pointer.as_str() == place.pointer.as_str(),
+    )
+}

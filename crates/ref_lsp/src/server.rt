@@ -1,0 +1,508 @@
+//! The loop that reads frames and answers.
+use crate::actions::actions;
+use crate::asked::asked_document;
+use crate::completion::completion;
+use crate::definition::definition;
+use crate::desk::Desk;
+use crate::hover::hover;
+use crate::life::{WATCH, initialize};
+use crate::links::links;
+use crate::references::references;
+use crate::session::Session;
+use crate::shown::{Rules, Shown, Told};
+use crate::symbols::symbols;
+use crate::workspace_symbols::workspace_symbols;
+use ref_error::Error;
+use ref_protocol::call::{Kind, id_text, kind_of, message_of};
+use ref_protocol::feed::{Feed, More, Next};
+use ref_protocol::methods::{Due, Method, Phase, due_for};
+use ref_protocol::refusal::Refusal;
+use ref_protocol::sending::{Unsent, answer, send};
+use ref_streams::{Sink, Source};
+use ref_workspace::View;
+use ref_workspace::world::world_of;
+use serde_json::Value;
+use std::alloc::{AllocError, Global};
+
+/// Why a server ends.
+#[derive(Clone, Copy, Debug, Drop, PartialEq, Eq)]
+pub enum Ending {
+    /// The client said so, or the source ended after a whole frame: whether it had shut the server down before.
+    Exit(bool),
+    /// The configuration is to be read again, and the session to be gone on with.
+    Configure,
+    /// What is read is no frame.
+    Broken(&'static str),
+    /// A read failed.
+    Read,
+    /// A write failed.
+    Write,
+    /// Memory ran out.
+    Memory,
+}
+
+impl From<AllocError> for Ending {
+    fn from(_error: AllocError) -> Ending {
+        Ending::Memory
+    }
+}
+
+impl From<Unsent> for Ending {
+    fn from(unsent: Unsent) -> Ending {
+        match unsent {
+            Unsent::Write => Ending::Write,
+            Unsent::Memory => Ending::Memory,
+        }
+    }
+}
+
+// A call in its time.
+#[derive(Drop)]
+struct Call {
+    // The text of its id, where it is a request.
+    id: Option<String>,
+    method: Method,
+    message: Value,
+}
+
+// What the loop goes on with.
+#[derive(Drop)]
+enum Event {
+    // A call that changes something.
+    Moves(Call),
+    // A request for which what changed is taken in first, or which needs the registry of the documents.
+    Asks(Call),
+    // What changed is taken in.
+    Settles,
+    // The end.
+    Ends(Ending),
+}
+
+/// Reads frames and answers, to the end, or until the configuration is to be read again. Frames that were read together are taken in before
+/// the documents are judged.
+pub fn serve<R: Source, W: Sink>(
+    desk: &mut Desk<'_>,
+    rules: Rules,
+    session: &mut Session,
+    source: &mut R,
+    sink: &mut W,
+) -> Ending {
+    let mut shown = Shown {
+        told: Told::new(desk.alloc()),
+        rules,
+    };
+    session.exchange(desk, &mut shown.told);
+    let outcome = served(desk, &mut shown, &mut session.feed, source, sink);
+    session.exchange(desk, &mut shown.told);
+    match outcome {
+        Ok(ending) => ending,
+        Err(ending) => ending,
+    }
+}
+
+fn served<R: Source, W: Sink>(
+    desk: &mut Desk<'_>,
+    shown: &mut Shown,
+    feed: &mut Feed,
+    source: &mut R,
+    sink: &mut W,
+) -> Result<Ending, Ending> {
+    let mut event = Event::Settles;
+    for _ in 0..u64::MAX {
+        event = match event {
+            Event::Ends(ending) => return Ok(ending),
+            Event::Moves(call) => {
+                moved(desk, &mut shown.told, sink, call)?;
+                after_move(desk, shown, feed, source, sink)?
+            }
+            Event::Asks(call) => asked(desk, shown, feed, source, sink, call)?,
+            Event::Settles => {
+                desk.settle()?;
+                turn(desk, None, shown, feed, source, sink)?
+            }
+        };
+    }
+    Ok(Ending::Memory)
+}
+
+// Goes on after a change.
+fn after_move<R: Source, W: Sink>(
+    desk: &Desk<'_>,
+    shown: &mut Shown,
+    feed: &mut Feed,
+    source: &mut R,
+    sink: &mut W,
+) -> Result<Event, Ending> {
+    if desk.is_reset {
+        return Ok(Event::Ends(Ending::Configure));
+    }
+    turn(desk, None, shown, feed, source, sink)
+}
+
+// Answers a request, which may need the registry of the documents, and goes on with that until something changes.
+fn asked<R: Source, W: Sink>(
+    desk: &mut Desk<'_>,
+    shown: &mut Shown,
+    feed: &mut Feed,
+    source: &mut R,
+    sink: &mut W,
+    call: Call,
+) -> Result<Event, Ending> {
+    desk.settle()?;
+    if needs_view(call.method) {
+        viewing(desk, shown, feed, source, sink, call)
+    } else {
+        judged(desk, shown, sink, call)?;
+        turn(desk, None, shown, feed, source, sink)
+    }
+}
+
+// Makes the registry of the documents, answers a request by it, and goes on with it.
+fn viewing<R: Source, W: Sink>(
+    desk: &Desk<'_>,
+    shown: &mut Shown,
+    feed: &mut Feed,
+    source: &mut R,
+    sink: &mut W,
+    call: Call,
+) -> Result<Event, Ending> {
+    let alloc = desk.alloc();
+    let trees = desk.workspace.mended(alloc)?;
+    match world_of(alloc, &desk.workspace, trees.as_slice()) {
+        Ok(world) => {
+            let view = View::of(alloc, &desk.workspace, &world)?;
+            by_world(desk, &view, shown, feed, source, sink, call)
+        }
+        Err(error) => {
+            drop_error(error);
+            reply(alloc, sink, call, Err(Refusal::Memory))?;
+            turn(desk, None, shown, feed, source, sink)
+        }
+    }
+}
+
+// Answers a request by the registry of the documents, and goes on with it.
+fn by_world<R: Source, W: Sink>(
+    desk: &Desk<'_>,
+    view: &View<'_, '_>,
+    shown: &mut Shown,
+    feed: &mut Feed,
+    source: &mut R,
+    sink: &mut W,
+    call: Call,
+) -> Result<Event, Ending> {
+    viewed(desk, view, sink, call)?;
+    turn(desk, Some(view), shown, feed, source, sink)
+}
+
+fn drop_error(error: Error) {
+    drop(error);
+}
+
+// Answers what changes nothing, until something does or, where there is no registry, one is needed.
+fn turn<R: Source, W: Sink>(
+    desk: &Desk<'_>,
+    view: Option<&View<'_, '_>>,
+    shown: &mut Shown,
+    feed: &mut Feed,
+    source: &mut R,
+    sink: &mut W,
+) -> Result<Event, Ending> {
+    let alloc = desk.alloc();
+    for _ in 0..u64::MAX {
+        match feed.next(alloc)? {
+            Next::Content(content) => {
+                if let Some(event) = taken(desk, view, shown, sink, content)? {
+                    return Ok(event);
+                }
+            }
+            Next::Broken(why) => return Ok(Event::Ends(Ending::Broken(why))),
+            Next::Wait => {
+                if let Some(event) = waited(desk, shown, feed, source, sink)? {
+                    return Ok(event);
+                }
+            }
+        }
+    }
+    Ok(Event::Ends(Ending::Memory))
+}
+
+// Takes in what changed, judges the documents, and reads more.
+fn waited<R: Source, W: Sink>(
+    desk: &Desk<'_>,
+    shown: &mut Shown,
+    feed: &mut Feed,
+    source: &mut R,
+    sink: &mut W,
+) -> Result<Option<Event>, Ending> {
+    if desk.is_moved || desk.is_stale {
+        return Ok(Some(Event::Settles));
+    }
+    shown.refresh(desk, sink)?;
+    match feed.fill(desk.alloc(), source)? {
+        More::Bytes => Ok(None),
+        More::End => Ok(Some(Event::Ends(ended(shown.told.phase)))),
+        More::Cut => Ok(Some(Event::Ends(Ending::Broken("the input ends in a frame")))),
+        More::Failed => Ok(Some(Event::Ends(Ending::Read))),
+    }
+}
+
+fn ended(phase: Phase) -> Ending {
+    Ending::Exit(phase == Phase::ShutDown)
+}
+
+// Takes the content of a frame: answers it, or returns what is to be done with it.
+fn taken<W: Sink>(
+    desk: &Desk<'_>,
+    view: Option<&View<'_, '_>>,
+    shown: &mut Shown,
+    sink: &mut W,
+    content: Vec<u8>,
+) -> Result<Option<Event>, Ending> {
+    let alloc = desk.alloc();
+    let Some(message) = message_of(alloc, content.as_slice())? else {
+        answer(alloc, sink, "null", Err(Refusal::NoJson))?;
+        return Ok(None);
+    };
+    drop(content);
+    let id = id_text(alloc, &message)?;
+    match kind_of(&message) {
+        Kind::Call(method) => {
+            let due = due_for(shown.told.phase, method, id.is_some());
+            match due {
+                Due::Pass => Ok(None),
+                Due::Refuse(refusal) => {
+                    answer(alloc, sink, shown_id(&id), Err(refusal))?;
+                    Ok(None)
+                }
+                Due::Do(method) => {
+                    let call = Call {
+                        id,
+                        method,
+                        message,
+                    };
+                    called(desk, view, shown, sink, call)
+                }
+            }
+        }
+        Kind::Answer => Ok(None),
+        Kind::Other => {
+            answer(alloc, sink, shown_id(&id), Err(Refusal::NoRequest))?;
+            Ok(None)
+        }
+    }
+}
+
+// The text of an id, or that of none.
+fn shown_id(id: &Option<String>) -> &str {
+    match id {
+        Some(id) => id.as_str(),
+        None => "null",
+    }
+}
+
+fn needs_view(method: Method) -> bool {
+    matches!(
+        method,
+        Method::Definition
+            | Method::References
+            | Method::Hover
+            | Method::DocumentLink
+            | Method::Completion
+    )
+}
+
+fn moves(method: Method) -> bool {
+    matches!(
+        method,
+        Method::Initialize
+            | Method::Initialized
+            | Method::DidOpen
+            | Method::DidChange
+            | Method::DidSave
+            | Method::DidClose
+            | Method::DidChangeFiles
+            | Method::DidChangeFolders
+    )
+}
+
+// Does what a call in its time says, or returns what is to be done with it.
+fn called<W: Sink>(
+    desk: &Desk<'_>,
+    view: Option<&View<'_, '_>>,
+    shown: &mut Shown,
+    sink: &mut W,
+    call: Call,
+) -> Result<Option<Event>, Ending> {
+    if moves(call.method) {
+        return Ok(Some(Event::Moves(call)));
+    }
+    match call.method {
+        Method::Exit => Ok(Some(Event::Ends(ended(shown.told.phase)))),
+        Method::Shutdown => {
+            shown.told.phase = Phase::ShutDown;
+            let result = String::from_str(desk.alloc(), "null")?;
+            reply(desk.alloc(), sink, call, Ok(result))?;
+            Ok(None)
+        }
+        _ => still(desk, view, shown, sink, call),
+    }
+}
+
+// Answers a request that changes nothing, or asks for what it needs.
+fn still<W: Sink>(
+    desk: &Desk<'_>,
+    view: Option<&View<'_, '_>>,
+    shown: &mut Shown,
+    sink: &mut W,
+    call: Call,
+) -> Result<Option<Event>, Ending> {
+    if desk.is_moved || desk.is_stale {
+        return Ok(Some(Event::Asks(call)));
+    }
+    if !needs_view(call.method) {
+        judged(desk, shown, sink, call)?;
+        return Ok(None);
+    }
+    match view {
+        Some(view) => {
+            viewed(desk, view, sink, call)?;
+            Ok(None)
+        }
+        None => Ok(Some(Event::Asks(call))),
+    }
+}
+
+// Answers a request that needs the registry.
+fn viewed<W: Sink>(
+    desk: &Desk<'_>,
+    view: &View<'_, '_>,
+    sink: &mut W,
+    call: Call,
+) -> Result<(), Unsent> {
+    let outcome = by_view(desk, view, &call);
+    reply(desk.alloc(), sink, call, outcome)
+}
+
+fn by_view(desk: &Desk<'_>, view: &View<'_, '_>, call: &Call) -> Result<String, Refusal> {
+    let Some(params) = call.message.get("params") else {
+        return Err(Refusal::NoParameters);
+    };
+    match call.method {
+        Method::Definition => definition(desk, view, params),
+        Method::References => references(desk, view, params),
+        Method::Hover => hover(desk, view, params),
+        Method::DocumentLink => links(desk, view, params),
+        _ => completion(desk, view, params),
+    }
+}
+
+// Answers a request that needs no registry.
+fn judged<W: Sink>(
+    desk: &Desk<'_>,
+    shown: &mut Shown,
+    sink: &mut W,
+    call: Call,
+) -> Result<(), Unsent> {
+    if matches!(call.method, Method::CodeAction | Method::Diagnostic) {
+        shown.refresh(desk, sink)?;
+    }
+    let outcome = by_texts(desk, &shown.told, &call);
+    reply(desk.alloc(), sink, call, outcome)
+}
+
+fn by_texts(desk: &Desk<'_>, told: &Told, call: &Call) -> Result<String, Refusal> {
+    let Some(params) = call.message.get("params") else {
+        return Err(Refusal::NoParameters);
+    };
+    match call.method {
+        Method::CodeAction => actions(desk, told, params),
+        Method::Diagnostic => pulled(desk, told, params),
+        Method::DocumentSymbol => symbols(desk, params),
+        _ => workspace_symbols(desk, params),
+    }
+}
+
+// `textDocument/diagnostic`.
+fn pulled(desk: &Desk<'_>, told: &Told, params: &Value) -> Result<String, Refusal> {
+    let alloc = desk.alloc();
+    let list = match asked_document(desk, params)? {
+        Some(number) => told.list(alloc, desk.client_uri(number)?.as_str())?,
+        None => String::from_str(alloc, "[]")?,
+    };
+    let mut out = String::from_str(alloc, "{\"kind\":\"full\",\"items\":")?;
+    out.push_str(list.as_str())?;
+    out.push('}')?;
+    Ok(out)
+}
+
+// Answers a call, where it is a request.
+fn reply<W: Sink>(
+    alloc: Global,
+    sink: &mut W,
+    call: Call,
+    outcome: Result<String, Refusal>,
+) -> Result<(), Unsent> {
+    let Call { id, .. } = call;
+    match id {
+        Some(id) => answer(alloc, sink, id.as_str(), outcome),
+        None => Ok(()),
+    }
+}
+
+// Does what a call says that changes something.
+fn moved<W: Sink>(
+    desk: &mut Desk<'_>,
+    told: &mut Told,
+    sink: &mut W,
+    call: Call,
+) -> Result<(), Unsent> {
+    match call.method {
+        Method::Initialize => begun(desk, told, sink, call),
+        Method::Initialized => {
+            if told.watches {
+                send(desk.alloc(), sink, WATCH)?;
+            }
+            Ok(())
+        }
+        _ => {
+            noted(desk, &call)?;
+            if desk.is_moved || desk.is_stale {
+                told.is_fresh = false;
+            }
+            Ok(())
+        }
+    }
+}
+
+// `initialize`.
+fn begun<W: Sink>(
+    desk: &mut Desk<'_>,
+    told: &mut Told,
+    sink: &mut W,
+    call: Call,
+) -> Result<(), Unsent> {
+    let outcome = match call.message.get("params") {
+        Some(params) => {
+            desk.is_reset = true;
+            Ok(initialize(desk, told, params)?)
+        }
+        None => Err(Refusal::NoParameters),
+    };
+    reply(desk.alloc(), sink, call, outcome)
+}
+
+// Takes in a notification.
+fn noted(desk: &mut Desk<'_>, call: &Call) -> Result<(), AllocError> {
+    let Some(params) = call.message.get("params") else {
+        return Ok(());
+    };
+    match call.method {
+        Method::DidOpen => desk.did_open(params),
+        Method::DidChange => desk.did_change(params),
+        Method::DidSave => desk.did_save(params),
+        Method::DidClose => desk.did_close(params),
+        Method::DidChangeFiles => desk.did_change_files(params),
+        _ => desk.did_change_folders(params),
+    }
+}

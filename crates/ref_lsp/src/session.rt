@@ -1,0 +1,48 @@
+//! What of a server goes on when its configuration is read again.
+use crate::desk::{Desk, OpenText};
+use crate::shown::Told;
+use ref_protocol::encoding::Encoding;
+use ref_protocol::feed::Feed;
+use std::alloc::{AllocError, Global};
+use std::mem::swap;
+
+/// What of a server goes on when its configuration is read again: what the client said and was told, and what is read and not taken yet.
+#[derive(Drop)]
+pub struct Session {
+    pub(crate) feed: Feed,
+    told: Told,
+    encoding: Encoding,
+    folders: Vec<String>,
+    open: Vec<OpenText>,
+}
+
+impl Session {
+    /// One in which nothing was said.
+    pub fn new(alloc: Global) -> Result<Session, AllocError> {
+        Ok(Session {
+            feed: Feed::new(alloc)?,
+            told: Told::new(alloc),
+            encoding: Encoding::Utf16,
+            folders: Vec::new(alloc),
+            open: Vec::new(alloc),
+        })
+    }
+
+    /// The path of the client's first folder, where it has one.
+    pub fn folder(&self) -> Option<&str> {
+        match self.folders.first() {
+            Some(folder) => Some(folder.as_str()),
+            None => None,
+        }
+    }
+
+    // Puts it in place of what a desk has, and that in place of it.
+    pub(crate) fn exchange(&mut self, desk: &mut Desk<'_>, told: &mut Told) {
+        swap(&mut self.told, told);
+        swap(&mut self.encoding, &mut desk.encoding);
+        swap(&mut self.folders, &mut desk.folders);
+        swap(&mut self.open, &mut desk.open);
+        told.is_fresh = false;
+        self.told.is_fresh = false;
+    }
+}

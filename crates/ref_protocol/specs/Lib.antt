@@ -1,0 +1,10 @@
+pub mod Calls
+pub mod Edits
+pub mod Feeding
+pub mod Frames
+pub mod Methods
+pub mod Positions
+pub mod Refusals
+pub mod Replies
+pub mod Rows
+pub mod Sending
