@@ -1,10 +1,11 @@
 //! The findings that a baseline has.
+use crate::listed::Listing;
 use crate::opened::Opened;
 use clap::ArgMatches;
 use ref_command_line::{Stop, say, say_of};
 use ref_files::{WriteError, write_file};
 use ref_messages::{Baseline, Message};
-use ref_workspace::Silences;
+use ref_workspace::{Finding, Silences};
 use std::alloc::AllocError;
 use std::{fs, io};
 
@@ -70,6 +71,21 @@ impl<'d> Known<'d> {
             self.passed = self.passed.saturating_add(1);
         }
         Ok(is_known)
+    }
+
+    /// Whether a finding in the file with this absolute path is listed: its rule isn't off there, no comment silences it, and it isn't known.
+    pub fn is_listed(
+        &mut self,
+        path: &str,
+        listing: &mut Listing,
+        finding: &Finding<'_>,
+        message: &Message<'_>,
+    ) -> Result<bool, AllocError> {
+        let level = listing.levels.level(path, message.code, message.level)?;
+        if level.is_none() || self.silences.has(finding, message.line, message.code)? {
+            return Ok(false);
+        }
+        Ok(!self.has(path, message)?)
     }
 
     /// Writes those that were found, where that is asked for, and says what silenced nothing and is known no more.

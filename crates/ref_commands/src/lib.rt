@@ -5,6 +5,7 @@
 
 mod beside;
 pub mod bundle;
+mod fix;
 pub mod graph;
 mod known;
 mod led;

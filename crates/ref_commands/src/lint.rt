@@ -1,4 +1,5 @@
 //! `patchsard lint`.
+use crate::fix::fix;
 use crate::known::Known;
 use crate::left_out::{say_broken, say_leniencies, say_unplaced};
 use crate::listed::{Form, Listing, Statistics};
@@ -48,7 +49,20 @@ pub fn lint<'a>(
     if given.get_flag("print-config") {
         return print_configured(rt, console, given, configured, &listing);
     }
-    let opened = open_given(rt, given, configured)?;
+    if given.get_flag("dry-run") && !given.get_flag("fix") {
+        say(rt, "--dry-run: it is of --fix, which isn't there");
+        return Err(Stop::Reported);
+    }
+    let mut opened = open_given(rt, given, configured)?;
+    let mut fixed: usize = 0;
+    if given.get_flag("fix") {
+        fixed = fix(rt, console, given, &mut listing, &mut opened)?;
+        if given.get_flag("dry-run") {
+            let has_failed = opened.has_failed;
+            let _ = opened.keep();
+            return Ok(status_of(fixed == 0, has_failed));
+        }
+    }
     let workspace = &opened.workspace;
     let others = workspace
         .documents()
@@ -65,7 +79,7 @@ pub fn lint<'a>(
         return Ok(1);
     };
     if !listing.is_quiet {
-        summary(rt, files, count, passed)?;
+        summary(rt, files, (count, fixed), passed)?;
         print_time(rt, begin);
     }
     let is_looked_at = count.is_looked_at(files);
@@ -403,7 +417,7 @@ impl Count {
 fn summary(
     rt: &HostRuntime,
     files: usize,
-    count: Count,
+    (count, fixed): (Count, usize),
     (passed, ignored): (usize, usize),
 ) -> Result<(), Stop> {
     let mut line = String::new(rt.alloc());
@@ -422,6 +436,9 @@ fn summary(
     push_count(&mut line, count.warnings, "warning")?;
     line.push_str(", ")?;
     push_count(&mut line, count.notes, "note")?;
+    if fixed > 0 {
+        write!(line, ", {fixed} fixed")?;
+    }
     if count.unplaced > 0 {
         line.push_str(", ")?;
         push_count(&mut line, count.unplaced, "text")?;

@@ -19,6 +19,8 @@ pub struct Opened<'r> {
     pub maps: Maps<'r>,
     /// Whether a path couldn't be read, which standard error says.
     pub has_failed: bool,
+    /// The number of the document that was read from standard input, where one was.
+    pub input: Option<usize>,
     /// How many files of YAML below folders were passed over.
     pub passed: usize,
     /// How many files and folders were left out since Git leaves them out.
@@ -77,6 +79,7 @@ fn open_listed<'r>(
         paths: Vec::new(rt.alloc()),
         maps,
         has_failed,
+        input: None,
         passed: read.passed.len(),
         ignored: listed.ignored,
     };
@@ -101,6 +104,9 @@ impl Opened<'_> {
             uri,
             text,
         };
+        if file.is_input {
+            self.input = Some(self.paths.len());
+        }
         self.paths.push(file.path)?;
         if file.is_own {
             self.workspace.open(document)

@@ -56,7 +56,9 @@ fn touches((start, end): Range, (from, to): Range) -> bool {
 fn push_action(alloc: Global, out: &mut String, fix: &Fix) -> Result<(), AllocError> {
     let title = format!(in alloc; "Change to '{}'", fix.meant.as_str())?;
     push_text(alloc, out, "{\"title\":", title.as_str())?;
-    out.push_str(",\"kind\":\"quickfix\",\"isPreferred\":true,\"diagnostics\":[")?;
+    out.push_str(",\"kind\":\"quickfix\",\"isPreferred\":")?;
+    out.push_str(if fix.is_only { "true" } else { "false" })?;
+    out.push_str(",\"diagnostics\":[")?;
     out.push_str(fix.diagnostic.as_str())?;
     push_text(alloc, out, "],\"edit\":{\"changes\":{", fix.uri.as_str())?;
     push_range(out, ":[{\"range\":", fix.range)?;

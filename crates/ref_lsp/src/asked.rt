@@ -1,8 +1,9 @@
 //! Which document and which place of it a request is about.
 use crate::desk::Desk;
-use crate::judged::{as_fragment, range_of};
+use crate::judged::range_of;
 use crate::texts::offset_in;
 use ref_files::{DocumentText, Format};
+use ref_fixes::as_fragment;
 use ref_outline::Outline;
 use ref_outline::spans::{decoded, part_in, pointer_of_steps};
 use ref_parts::write_escaped_str;

@@ -1,8 +1,8 @@
 //! What may be written in a reference.
 use crate::asked::{Asked, asked_place};
 use crate::desk::Desk;
-use crate::judged::{as_fragment, written};
 use crate::workspace_symbols::named_in;
+use ref_fixes::{as_fragment, written};
 use ref_protocol::pieces::{Range, push_comma, push_range, push_text};
 use ref_protocol::refusal::Refusal;
 use ref_uri::UriFault;

@@ -1,14 +1,13 @@
 //! What is wrong with the documents, in the protocol's words.
 use crate::desk::{Desk, OpenText};
 use crate::shown::Rules;
-use ref_files::{Fault, Format, uri_below};
-use ref_findings::Problem;
+use ref_files::{Fault, Format};
+use ref_fixes::{Replacement, mended};
 use ref_messages::{Level, Message, Other};
 use ref_outline::spans::{offset_of, token_end};
 use ref_protocol::encoding::place_at;
 use ref_protocol::pieces::{Range, push_comma, push_location, push_number, push_range, push_text};
 use ref_workspace::{Describer, Finding, Silences};
-use serde_json::Value;
 use std::alloc::{AllocError, Global};
 use std::collections::BTreeMap;
 
@@ -23,6 +22,8 @@ pub struct Fix {
     pub text: String,
     /// What is meant.
     pub meant: String,
+    /// Whether nothing else is as close as that.
+    pub is_only: bool,
     /// What is wrong, as it is published.
     pub diagnostic: String,
 }
@@ -72,14 +73,6 @@ fn level_of(
         return Ok(None);
     }
     Ok(level)
-}
-
-// What a text of a document is replaced by.
-#[derive(Drop)]
-struct Mended {
-    start: usize,
-    end: usize,
-    text: String,
 }
 
 impl Judged {
@@ -153,9 +146,9 @@ impl Judged {
             push_first(desk, &mut out, first)?;
         }
         out.push('}')?;
-        if let Some(mended) = mended_in(alloc, finding, message, (format, text), (start, end))? {
+        if let Some(part) = mended(alloc, finding, message, (format, text))? {
             let diagnostic = out.clone()?;
-            self.add_fix(desk, uri.clone()?, text, mended, message, diagnostic)?;
+            self.add_fix(desk, uri.clone()?, text, part, message, diagnostic)?;
         }
         self.push(alloc, uri, out.as_str())
     }
@@ -165,12 +158,12 @@ impl Judged {
         desk: &Desk<'_>,
         uri: String,
         text: &str,
-        mended: Mended,
+        part: Replacement,
         message: &Message<'_>,
         diagnostic: String,
     ) -> Result<(), AllocError> {
         let alloc = desk.alloc();
-        let range = range_of(desk, text, mended.start, mended.end);
+        let range = range_of(desk, text, part.start, part.end);
         let meant = match &message.suggestion {
             Some(meant) => meant.clone()?,
             None => String::new(alloc),
@@ -178,8 +171,9 @@ impl Judged {
         self.fixes.push(Fix {
             uri,
             range,
-            text: mended.text,
+            text: part.text,
             meant,
+            is_only: message.is_only,
             diagnostic,
         })?;
         Ok(())
@@ -291,72 +285,4 @@ fn push_first(desk: &Desk<'_>, out: &mut String, first: &Other) -> Result<(), Al
     out.push_str(",\"relatedInformation\":[{\"location\":")?;
     push_location(alloc, out, desk.client_uri(number)?.as_str(), range)?;
     out.push_str(",\"message\":\"first\"}]")
-}
-
-// What mends a reference, where something is meant.
-fn mended_in(
-    alloc: Global,
-    finding: &Finding<'_>,
-    message: &Message<'_>,
-    (format, text): (Format, &str),
-    (start, end): (usize, usize),
-) -> Result<Option<Mended>, AllocError> {
-    let (Some(meant), Some(reference)) = (&message.suggestion, message.reference) else {
-        return Ok(None);
-    };
-    let new = match finding.problem.plain() {
-        Some(Problem::LeadsNowhere { .. }) => with_fragment(alloc, reference, meant.as_str())?,
-        Some(Problem::MissingDocument { .. }) => meant.clone()?,
-        _ => return Ok(None),
-    };
-    let text = written(
-        alloc,
-        format,
-        text.get(start..end).unwrap_or(""),
-        new.as_str(),
-    )?;
-    Ok(Some(Mended { start, end, text }))
-}
-
-// A reference with another fragment.
-fn with_fragment(alloc: Global, reference: &str, fragment: &str) -> Result<String, AllocError> {
-    let front = match reference.split_once('#') {
-        Some((front, _)) => front,
-        None => reference,
-    };
-    let fragment = as_fragment(alloc, fragment)?;
-    format!(in alloc; "{front}#{fragment}")
-}
-
-/// A pointer or the name of an anchor as a fragment, percent-encoded (RFC 3986, 3.5).
-pub fn as_fragment(alloc: Global, text: &str) -> Result<String, AllocError> {
-    match text.strip_prefix('/') {
-        Some(rest) => uri_below(alloc, "", rest),
-        None => String::from_str(alloc, text),
-    }
-}
-
-/// A text as a scalar of a document that is written so, in the quotes of another scalar.
-pub fn written(
-    alloc: Global,
-    format: Format,
-    token: &str,
-    text: &str,
-) -> Result<String, AllocError> {
-    if format == Format::Yaml && token.starts_with('\'') && !text.contains('\'') {
-        return format!(in alloc; "'{text}'");
-    }
-    if format == Format::Yaml && !token.starts_with('"') && is_plain(text) {
-        return String::from_str(alloc, text);
-    }
-    Value::String(String::from_str(alloc, text)?).to_string(alloc)
-}
-
-// Whether a text of YAML needs no quotes.
-fn is_plain(text: &str) -> bool {
-    let begins = text.starts_with(|c: char| c.is_ascii_alphabetic() || c == '.' || c == '/');
-    begins
-        && text
-            .chars()
-            .all(|c| c.is_ascii_alphanumeric() || "-._~/#%".contains(c))
 }

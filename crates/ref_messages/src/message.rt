@@ -61,6 +61,8 @@ pub struct Message<'m> {
     pub resolved: Option<String>,
     /// What may be meant.
     pub suggestion: Option<String>,
+    /// Whether nothing else is as close as that.
+    pub is_only: bool,
     /// What to do.
     pub help: Option<String>,
     /// The place that it clashes with.

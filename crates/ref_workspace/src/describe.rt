@@ -4,7 +4,7 @@ use crate::finding::{Finding, Problem};
 use crate::resources::Resources;
 use crate::rules::code_of;
 use crate::spots::{Spots, first_of, spots_of};
-use crate::suggestions::suggestion;
+use crate::suggestions::{Meant, suggestion};
 use crate::told::{no_schema_text, told_help, told_suggestion, told_text};
 use crate::why::{fault_text, near_dialect, uri_text};
 use crate::workspace::Workspace;
@@ -96,6 +96,7 @@ impl<'l, 'd> Describer<'l, 'd> {
             reference: finding.text,
             resolved: None,
             suggestion: None,
+            is_only: false,
             help: None,
             first: None,
             excerpt: self.excerpt(number, finding, (line, column)),
@@ -139,7 +140,10 @@ impl<'l, 'd> Describer<'l, 'd> {
         message.pointer = pointer_of(self.alloc, finding.path.as_slice())?;
         message.text = self.text(finding)?;
         message.resolved = resolved(self.alloc, finding)?;
-        message.suggestion = self.suggestion(finding)?;
+        if let Some(meant) = self.suggestion(finding)? {
+            message.is_only = meant.is_only;
+            message.suggestion = Some(meant.text);
+        }
         message.first = self.first(number, &finding.problem)?;
         Ok(())
     }
@@ -211,17 +215,30 @@ impl<'l, 'd> Describer<'l, 'd> {
         String::from_str(self.alloc, why)
     }
 
-    fn suggestion(&mut self, finding: &Finding<'_>) -> Result<Option<String>, AllocError> {
+    fn suggestion(&mut self, finding: &Finding<'_>) -> Result<Option<Meant>, AllocError> {
         if let Problem::Told { told, .. } = &finding.problem {
-            return told_suggestion(self.alloc, *told);
+            return match told_suggestion(self.alloc, *told)? {
+                Some(text) => Ok(Some(Meant::only(text))),
+                None => Ok(None),
+            };
         }
         match finding.problem.plain() {
             Some(Plain::LeadsNowhere { uri, error }) => self.suggestion_in(uri, error),
             Some(Plain::MissingDocument { uri }) => self.suggested_document(finding, uri),
-            Some(Plain::UnknownDialect { .. }) => {
-                near_dialect(self.alloc, &mut self.suggester, finding.text.unwrap_or(""))
-            }
+            Some(Plain::UnknownDialect { .. }) => self.suggested_dialect(finding),
             _ => Ok(None),
+        }
+    }
+
+    // The draft that a dialect may mean, which is never sure.
+    fn suggested_dialect(&mut self, finding: &Finding<'_>) -> Result<Option<Meant>, AllocError> {
+        let text = finding.text.unwrap_or("");
+        match near_dialect(self.alloc, &mut self.suggester, text)? {
+            Some(text) => Ok(Some(Meant {
+                text,
+                is_only: false,
+            })),
+            None => Ok(None),
         }
     }
 
@@ -233,7 +250,7 @@ impl<'l, 'd> Describer<'l, 'd> {
         Ok(())
     }
 
-    fn suggestion_in(&mut self, uri: &Uri, error: &Error) -> Result<Option<String>, AllocError> {
+    fn suggestion_in(&mut self, uri: &Uri, error: &Error) -> Result<Option<Meant>, AllocError> {
         self.prepare()?;
         let Some(resources) = &self.resources else {
             return Ok(None);
@@ -249,7 +266,7 @@ impl<'l, 'd> Describer<'l, 'd> {
         &mut self,
         finding: &Finding<'_>,
         uri: &Uri,
-    ) -> Result<Option<String>, AllocError> {
+    ) -> Result<Option<Meant>, AllocError> {
         self.prepare()?;
         let (Some(resources), Some(text)) = (&self.resources, finding.text) else {
             return Ok(None);

@@ -1,5 +1,6 @@
 //! What may be meant by a reference into a document that isn't there.
 use crate::resources::{ENDS, Resources};
+use crate::suggestions::Meant;
 use crate::workspace::Workspace;
 use ref_draft::ResourceRef;
 use ref_files::{folder_of, last_name, names_of};
@@ -16,19 +17,21 @@ pub fn meant_document(
     (workspace, resources): (&Workspace, &Resources<'_>),
     source: usize,
     (text, uri): (&str, &str),
-) -> Result<Option<String>, AllocError> {
+) -> Result<Option<Meant>, AllocError> {
     suggester.begin();
     if let Some(meant) = meant_fragment(alloc, workspace, resources, source, text)? {
-        return Ok(Some(meant));
+        return Ok(Some(Meant::only(meant)));
     }
     let (front, hash, fragment) = match text.split_once('#') {
         Some((front, fragment)) => (front, "#", fragment),
         None => (text, "", ""),
     };
-    if let Some(end) = missing_end(alloc, resources, uri)? {
-        return Ok(Some(format!(in alloc; "{front}{end}{hash}{fragment}")?));
+    if let Some((end, is_only)) = missing_end(alloc, resources, uri)? {
+        let text = format!(in alloc; "{front}{end}{hash}{fragment}")?;
+        return Ok(Some(Meant { text, is_only }));
     }
-    let Some(close) = resources.close_uri(alloc, suggester, uri)? else {
+    let best = resources.close_uri(alloc, suggester, uri)?;
+    let Some(close) = best.name else {
         return Ok(None);
     };
     if is_uri_of(workspace, source, close) {
@@ -39,22 +42,30 @@ pub fn meant_document(
         Some(folder) => (folder, name),
         None => ("", close),
     };
-    Ok(Some(format!(in alloc; "{folder}{name}{hash}{fragment}")?))
+    let text = format!(in alloc; "{folder}{name}{hash}{fragment}")?;
+    Ok(Some(Meant {
+        text,
+        is_only: best.is_only,
+    }))
 }
 
-// What a URI lacks at its end to be that of a document.
+// What a URI lacks at its end to be that of a document, and whether it may lack that alone.
 fn missing_end(
     alloc: Global,
     resources: &Resources<'_>,
     uri: &str,
-) -> Result<Option<&'static str>, AllocError> {
+) -> Result<Option<(&'static str, bool)>, AllocError> {
+    let mut found: Option<(&'static str, bool)> = None;
     for end in ENDS {
         let longer = format!(in alloc; "{uri}{end}")?;
         if resources.get(longer.as_str()).is_some() {
-            return Ok(Some(*end));
+            found = match found {
+                Some((first, _)) => Some((first, false)),
+                None => Some((*end, true)),
+            };
         }
     }
-    Ok(None)
+    Ok(found)
 }
 
 // Whether a URI is that of the document with a number.

@@ -1,5 +1,6 @@
 //! The resources of documents: what the pointers and anchors of references may mean, for suggestions.
 use crate::documents::tails;
+use crate::suggestions::Best;
 use crate::workspace::Workspace;
 use crate::world::without_fragment;
 use ref_draft::{Child, Draft, ResourceRef};
@@ -111,21 +112,16 @@ impl<'d> Resources<'d> {
         alloc: Global,
         suggester: &mut Suggester,
         wanted: &str,
-    ) -> Result<Option<&str>, AllocError> {
-        let mut best: Option<&str> = None;
-        let mut least = usize::MAX;
+    ) -> Result<Best<'_>, AllocError> {
+        let mut best = Best::new();
         for (uri, _) in &self.numbers {
             if !suggester.step() {
                 break;
             }
             if uri.as_str().eq_ignore_ascii_case(wanted) {
-                return Ok(Some(uri.as_str()));
-            }
-            if let Some(edits) = distance(alloc, suggester, wanted, uri.as_str())? {
-                if edits < least {
-                    least = edits;
-                    best = Some(uri.as_str());
-                }
+                best.take(uri.as_str(), 0);
+            } else if let Some(edits) = distance(alloc, suggester, wanted, uri.as_str())? {
+                best.take(uri.as_str(), edits);
             }
         }
         Ok(best)

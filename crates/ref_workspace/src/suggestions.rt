@@ -6,6 +6,25 @@ use referencing::{unescape_segment, write_escaped_str};
 use serde_json::{Map, Value};
 use std::alloc::{AllocError, Global};
 
+/// What may be meant by a text.
+#[derive(Drop)]
+pub struct Meant {
+    /// The text that is meant.
+    pub text: String,
+    /// Whether nothing else is as close.
+    pub is_only: bool,
+}
+
+impl Meant {
+    /// What alone may be meant.
+    pub fn only(text: String) -> Meant {
+        Meant {
+            text,
+            is_only: true,
+        }
+    }
+}
+
 /// What may be meant by an unresolvable reference into a resource: a pointer with another key, one that lacks its first
 /// slash, or another anchor.
 pub fn suggestion(
@@ -13,7 +32,7 @@ pub fn suggestion(
     suggester: &mut Suggester,
     resource: &Resource<'_>,
     error: &Error,
-) -> Result<Option<String>, AllocError> {
+) -> Result<Option<Meant>, AllocError> {
     suggester.begin();
     match error {
         Error::PointerToNowhere { pointer } => {
@@ -28,10 +47,10 @@ pub fn suggestion(
 }
 
 // The pointer that lacks its first slash, where a value is at it.
-fn with_slash(alloc: Global, root: &Value, text: &str) -> Result<Option<String>, AllocError> {
+fn with_slash(alloc: Global, root: &Value, text: &str) -> Result<Option<Meant>, AllocError> {
     let meant = format!(in alloc; "/{text}")?;
     if root.pointer(meant.as_str()).is_some() {
-        Ok(Some(meant))
+        Ok(Some(Meant::only(meant)))
     } else {
         Ok(None)
     }
@@ -43,7 +62,7 @@ fn close_pointer(
     suggester: &mut Suggester,
     root: &Value,
     pointer: &str,
-) -> Result<Option<String>, AllocError> {
+) -> Result<Option<Meant>, AllocError> {
     let mut value = root;
     for (number, segment) in pointer.split('/').enumerate() {
         if number == 0 {
@@ -78,16 +97,20 @@ fn with_close_key(
     (root, value): (&Value, &Value),
     (pointer, number): (&str, usize),
     key: &str,
-) -> Result<Option<String>, AllocError> {
+) -> Result<Option<Meant>, AllocError> {
     let Some(members) = value.as_object() else {
         return Ok(None);
     };
-    let Some(close) = close_key(alloc, suggester, members, key)? else {
+    let best = close_key(alloc, suggester, members, key)?;
+    let Some(close) = best.name else {
         return Ok(None);
     };
-    let meant = with_segment(alloc, pointer, number, close)?;
-    if root.pointer(meant.as_str()).is_some() {
-        Ok(Some(meant))
+    let text = with_segment(alloc, pointer, number, close)?;
+    if root.pointer(text.as_str()).is_some() {
+        Ok(Some(Meant {
+            text,
+            is_only: best.is_only,
+        }))
     } else {
         Ok(None)
     }
@@ -119,7 +142,7 @@ fn close_key<'v>(
     suggester: &mut Suggester,
     members: &'v Map<String, Value>,
     wanted: &str,
-) -> Result<Option<&'v str>, AllocError> {
+) -> Result<Best<'v>, AllocError> {
     let mut best = Best::new();
     for (key, _) in members {
         if !suggester.step() {
@@ -127,21 +150,37 @@ fn close_key<'v>(
         }
         best.try_name(alloc, suggester, wanted, key.as_str())?;
     }
-    Ok(best.name)
+    Ok(best)
 }
 
-// The closest name so far.
+/// The closest name so far.
 #[derive(Drop)]
-struct Best<'v> {
-    name: Option<&'v str>,
+pub struct Best<'v> {
+    /// The name.
+    pub name: Option<&'v str>,
+    /// Whether no other is as close.
+    pub is_only: bool,
     edits: usize,
 }
 
 impl<'v> Best<'v> {
-    fn new() -> Best<'v> {
+    /// None so far.
+    pub fn new() -> Best<'v> {
         Best {
             name: None,
+            is_only: true,
             edits: usize::MAX,
+        }
+    }
+
+    /// Takes a name that is so many edits away, where none is closer.
+    pub fn take(&mut self, name: &'v str, edits: usize) {
+        if edits < self.edits {
+            self.edits = edits;
+            self.name = Some(name);
+            self.is_only = true;
+        } else if edits == self.edits {
+            self.is_only = false;
         }
     }
 
@@ -153,10 +192,7 @@ impl<'v> Best<'v> {
         name: &'v str,
     ) -> Result<(), AllocError> {
         if let Some(edits) = suggester.distance(alloc, wanted, name)? {
-            if edits < self.edits {
-                self.edits = edits;
-                self.name = Some(name);
-            }
+            self.take(name, edits);
         }
         Ok(())
     }
@@ -168,7 +204,7 @@ fn close_anchor(
     suggester: &mut Suggester,
     names: &[&str],
     wanted: &str,
-) -> Result<Option<String>, AllocError> {
+) -> Result<Option<Meant>, AllocError> {
     let mut best = Best::new();
     for name in names {
         if !suggester.step() {
@@ -177,7 +213,10 @@ fn close_anchor(
         best.try_name(alloc, suggester, wanted, name)?;
     }
     match best.name {
-        Some(name) => Ok(Some(String::from_str(alloc, name)?)),
+        Some(name) => Ok(Some(Meant {
+            text: String::from_str(alloc, name)?,
+            is_only: best.is_only,
+        })),
         None => Ok(None),
     }
 }
