@@ -1,10 +1,9 @@
 //! `patchsard graph`.
 use crate::left_out::say_broken;
-use crate::members::push_text;
 use crate::opened::{open_given, reported};
 use clap::ArgMatches;
 use ref_command_line::{Configured, Console, Stop};
-use ref_messages::{Edge, Graph, push_dot, push_mermaid};
+use ref_messages::{Edge, Graph, push_dot, push_member, push_mermaid};
 use ref_workspace::{Workspace, graph_of};
 use std::alloc::{AllocError, Global};
 
@@ -79,7 +78,7 @@ fn push_names(
     let mut before = "";
     for node in &graph.nodes {
         if !node.is_left_out && node.is_missing == is_missing {
-            push_text(alloc, out, before, node.name.as_str())?;
+            push_member(alloc, out, before, node.name.as_str())?;
             before = ",";
         }
     }
@@ -93,8 +92,8 @@ fn push_edge(
     graph: &Graph,
     edge: &Edge,
 ) -> Result<(), AllocError> {
-    push_text(alloc, out, before, name_of(graph, edge.from))?;
-    push_text(alloc, out, ",\"to\":", name_of(graph, edge.to))?;
+    push_member(alloc, out, before, name_of(graph, edge.from))?;
+    push_member(alloc, out, ",\"to\":", name_of(graph, edge.to))?;
     let (count, broken) = (edge.count, edge.broken);
     write!(out, ",\"count\":{count},\"broken\":{broken}}}")
 }

@@ -1,9 +1,9 @@
 //! The places of a document, a line each: as text for people, or as a JSON object.
-use crate::members::{push_site, push_text};
+use crate::members::push_site;
 use ref_descriptions::Version;
 use ref_draft::Draft;
 use ref_index::Place;
-use ref_messages::{Plain, push_quoted};
+use ref_messages::{Plain, push_member, push_quoted};
 use ref_parts::pointer_of;
 use ref_positions::{Places, Position};
 use ref_workspace::pointer::place_of;
@@ -165,15 +165,15 @@ fn push_place_object(
         Some(at),
         pointer.as_str(),
     )?;
-    push_text(alloc, out, ",\"kind\":", "schema")?;
-    push_text(alloc, out, ",\"draft\":", place.draft.name())?;
-    push_text(alloc, out, ",\"base\":", place.base.as_str())?;
+    push_member(alloc, out, ",\"kind\":", "schema")?;
+    push_member(alloc, out, ",\"draft\":", place.draft.name())?;
+    push_member(alloc, out, ",\"base\":", place.base.as_str())?;
     if let Some(id) = place
         .value
         .get(place.draft.id_keyword())
         .and_then(Value::as_str)
     {
-        push_text(alloc, out, ",\"id\":", id)?;
+        push_member(alloc, out, ",\"id\":", id)?;
     }
     let mut is_first = true;
     for anchor in place.draft.anchors(place.value) {
@@ -224,14 +224,14 @@ fn push_described_object(
         Some(at),
         pointer.as_str(),
     )?;
-    push_text(alloc, out, ",\"kind\":", place.reading.kind.name())?;
+    push_member(alloc, out, ",\"kind\":", place.reading.kind.name())?;
     if let Some(version) = place.reading.version {
-        push_text(alloc, out, ",\"version\":", version_name(version))?;
+        push_member(alloc, out, ",\"version\":", version_name(version))?;
     }
     if place.reading.is_by_draft() {
-        push_text(alloc, out, ",\"draft\":", place.reading.draft.name())?;
+        push_member(alloc, out, ",\"draft\":", place.reading.draft.name())?;
     }
-    push_text(alloc, out, ",\"base\":", place.base.as_str())?;
+    push_member(alloc, out, ",\"base\":", place.base.as_str())?;
     out.push_str("}\n")
 }
 

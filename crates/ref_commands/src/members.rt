@@ -1,6 +1,6 @@
 //! Members of the JSON objects that `places`, `resolve` and `graph` print with `--format json`.
 use clap::ArgMatches;
-use ref_messages::push_quoted;
+use ref_messages::push_member;
 use std::alloc::{AllocError, Global};
 
 /// Whether an object a line is asked for, in place of text for people.
@@ -11,17 +11,6 @@ pub(crate) fn is_json(given: &ArgMatches<'_>) -> bool {
     }
 }
 
-/// Adds what is before a text, as `,"file":`, and the text as a JSON string.
-pub(crate) fn push_text(
-    alloc: Global,
-    out: &mut String,
-    before: &str,
-    text: &str,
-) -> Result<(), AllocError> {
-    out.push_str(before)?;
-    push_quoted(alloc, out, text)
-}
-
 /// Adds `file`, `line` and `column`, where a file has the place, and `pointer`, without the brace at the end.
 pub(crate) fn push_site(
     alloc: Global,
@@ -30,9 +19,9 @@ pub(crate) fn push_site(
     at: Option<(usize, usize)>,
     pointer: &str,
 ) -> Result<(), AllocError> {
-    push_text(alloc, out, "{\"file\":", file)?;
+    push_member(alloc, out, "{\"file\":", file)?;
     if let Some((line, column)) = at {
         write!(out, ",\"line\":{line},\"column\":{column}")?;
     }
-    push_text(alloc, out, ",\"pointer\":", pointer)
+    push_member(alloc, out, ",\"pointer\":", pointer)
 }

@@ -1,9 +1,9 @@
 //! What a reference leads to, as it is printed.
 use crate::listing::version_name;
-use crate::members::{push_site, push_text};
+use crate::members::push_site;
 use ref_command_line::Stop;
 use ref_draft::Draft;
-use ref_messages::{Plain, push_json, push_quoted};
+use ref_messages::{Plain, push_json, push_member, push_quoted};
 use ref_parts::{pointer_of, value_at};
 use ref_workspace::follow::Found;
 use ref_workspace::pointer::{path_to, position};
@@ -44,11 +44,11 @@ pub fn push_found_object(
     let at = place_in(alloc, workspace.documents().get(number), pointer)?;
     push_site(alloc, out, workspace.name(number), at, pointer)?;
     if let Some((kind, version)) = kind_at(alloc, workspace, number, pointer)? {
-        push_text(alloc, out, ",\"kind\":", kind)?;
-        push_text(alloc, out, ",\"version\":", version)?;
+        push_member(alloc, out, ",\"kind\":", kind)?;
+        push_member(alloc, out, ",\"version\":", version)?;
     }
-    push_text(alloc, out, ",\"draft\":", found.draft.name())?;
-    push_text(alloc, out, ",\"base\":", found.resolver.base_uri().as_str())?;
+    push_member(alloc, out, ",\"draft\":", found.draft.name())?;
+    push_member(alloc, out, ",\"base\":", found.resolver.base_uri().as_str())?;
     push_scope_list(alloc, out, &found.resolver)?;
     let own = own_value(alloc, workspace.value(number), pointer)?;
     let text = own.unwrap_or(found.value).to_string(alloc)?;

@@ -5,6 +5,7 @@
 #![tactic(auto)]
 
 pub mod diff;
+pub mod examples;
 pub mod mend;
 pub mod replace;
 

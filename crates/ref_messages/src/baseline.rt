@@ -1,5 +1,5 @@
 //! Findings that are known, so that only new ones are listed.
-use crate::members::push_text;
+use crate::members::push_member;
 use crate::message::Message;
 use serde_json::Value;
 use std::alloc::{AllocError, Global};
@@ -129,10 +129,10 @@ fn line_of(
     text: &str,
 ) -> Result<String, AllocError> {
     let mut line = String::new(alloc);
-    push_text(alloc, &mut line, "{\"file\":", file)?;
-    push_text(alloc, &mut line, ",\"rule\":", rule)?;
-    push_text(alloc, &mut line, ",\"pointer\":", pointer)?;
-    push_text(alloc, &mut line, ",\"text\":", text)?;
+    push_member(alloc, &mut line, "{\"file\":", file)?;
+    push_member(alloc, &mut line, ",\"rule\":", rule)?;
+    push_member(alloc, &mut line, ",\"pointer\":", pointer)?;
+    push_member(alloc, &mut line, ",\"text\":", text)?;
     line.push('}')?;
     Ok(line)
 }

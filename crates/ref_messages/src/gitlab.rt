@@ -1,5 +1,5 @@
 //! Messages as a report on code quality, as GitLab reads it.
-use crate::members::{push_number, push_text};
+use crate::members::{push_member, push_number};
 use crate::message::{Level, Message};
 use std::alloc::{AllocError, Global};
 
@@ -20,12 +20,12 @@ pub fn push_gitlab(
 
 fn push_issue(alloc: Global, out: &mut String, message: &Message<'_>) -> Result<(), AllocError> {
     let text = text_of(message)?;
-    push_text(alloc, out, "{\"description\":", text.as_str())?;
-    push_text(alloc, out, ",\"check_name\":", message.code)?;
+    push_member(alloc, out, "{\"description\":", text.as_str())?;
+    push_member(alloc, out, ",\"check_name\":", message.code)?;
     let print = fingerprint(alloc, message)?;
-    push_text(alloc, out, ",\"fingerprint\":", print.as_str())?;
-    push_text(alloc, out, ",\"severity\":", severity(message.level))?;
-    push_text(alloc, out, ",\"location\":{\"path\":", message.file)?;
+    push_member(alloc, out, ",\"fingerprint\":", print.as_str())?;
+    push_member(alloc, out, ",\"severity\":", severity(message.level))?;
+    push_member(alloc, out, ",\"location\":{\"path\":", message.file)?;
     push_number(out, ",\"lines\":{\"begin\":", message.line)?;
     out.push_str("}}}")
 }

@@ -27,7 +27,7 @@ pub use graph::{Edge, Graph, Node, push_dot, push_mermaid};
 pub use junit::push_junit;
 pub use levels::{Chosen, level_in};
 pub use lines::push_line;
-pub use members::push_quoted;
+pub use members::{push_member, push_quoted};
 pub use message::{Level, Message, Other};
 pub use plain::{Plain, PlainBytes, push_json};
 pub use sarif::{Rule, push_sarif};

@@ -1,5 +1,5 @@
 //! Messages as objects in JSON, one a line.
-use crate::members::{push_number, push_option, push_text};
+use crate::members::{push_member, push_number, push_option};
 use crate::message::{Message, Other};
 use std::alloc::{AllocError, Global};
 
@@ -28,10 +28,10 @@ fn push_place(
     (line, column): (usize, usize),
     pointer: &str,
 ) -> Result<(), AllocError> {
-    push_text(alloc, out, "{\"file\":", file)?;
+    push_member(alloc, out, "{\"file\":", file)?;
     push_known(out, ",\"line\":", line)?;
     push_known(out, ",\"column\":", column)?;
-    push_text(alloc, out, ",\"pointer\":", pointer)
+    push_member(alloc, out, ",\"pointer\":", pointer)
 }
 
 fn push_known(out: &mut String, before: &str, number: usize) -> Result<(), AllocError> {
@@ -42,9 +42,9 @@ fn push_known(out: &mut String, before: &str, number: usize) -> Result<(), Alloc
 }
 
 fn push_kind(alloc: Global, out: &mut String, message: &Message<'_>) -> Result<(), AllocError> {
-    push_text(alloc, out, ",\"level\":", message.level.name())?;
-    push_text(alloc, out, ",\"code\":", message.code)?;
-    push_text(alloc, out, ",\"message\":", message.text.as_str())
+    push_member(alloc, out, ",\"level\":", message.level.name())?;
+    push_member(alloc, out, ",\"code\":", message.code)?;
+    push_member(alloc, out, ",\"message\":", message.text.as_str())
 }
 
 fn push_reference(

@@ -4,7 +4,7 @@ use serde_json::Value;
 use std::alloc::{AllocError, Global};
 
 /// Adds what is before a text, as `,"file":`, and the text as a JSON string.
-pub(crate) fn push_text(
+pub fn push_member(
     alloc: Global,
     out: &mut String,
     before: &str,
@@ -28,7 +28,7 @@ pub(crate) fn push_option(
     text: Option<&str>,
 ) -> Result<(), AllocError> {
     match text {
-        Some(text) => push_text(alloc, out, before, text),
+        Some(text) => push_member(alloc, out, before, text),
         None => Ok(()),
     }
 }

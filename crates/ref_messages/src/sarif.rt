@@ -1,6 +1,6 @@
 //! Messages as a SARIF log (2.1.0).
 use crate::gitlab::fingerprint;
-use crate::members::{push_number, push_text};
+use crate::members::{push_member, push_number};
 use crate::message::{Message, Other};
 use std::alloc::{AllocError, Global};
 
@@ -28,7 +28,7 @@ pub fn push_sarif(
     unlooked: Option<&str>,
 ) -> Result<(), AllocError> {
     out.push_str(HEAD)?;
-    push_text(alloc, out, ",\"version\":", version)?;
+    push_member(alloc, out, ",\"version\":", version)?;
     push_rules(alloc, out, rules)?;
     push_invocation(alloc, out, unlooked)?;
     push_results(alloc, out, messages)
@@ -45,8 +45,8 @@ fn push_rules(alloc: Global, out: &mut String, rules: &[Rule]) -> Result<(), All
 }
 
 fn push_rule(alloc: Global, out: &mut String, rule: Rule) -> Result<(), AllocError> {
-    push_text(alloc, out, "{\"id\":", rule.code)?;
-    push_text(alloc, out, ",\"shortDescription\":{\"text\":", rule.text)?;
+    push_member(alloc, out, "{\"id\":", rule.code)?;
+    push_member(alloc, out, ",\"shortDescription\":{\"text\":", rule.text)?;
     out.push_str("}}")
 }
 
@@ -61,7 +61,7 @@ fn push_invocation(
         None => out.push_str("true}]"),
         Some(why) => {
             out.push_str("false,\"toolExecutionNotifications\":[{\"level\":\"error\"")?;
-            push_text(alloc, out, ",\"message\":{\"text\":", why)?;
+            push_member(alloc, out, ",\"message\":{\"text\":", why)?;
             out.push_str("}}]}]")
         }
     }
@@ -82,8 +82,8 @@ fn push_results(
 }
 
 fn push_result(alloc: Global, out: &mut String, message: &Message<'_>) -> Result<(), AllocError> {
-    push_text(alloc, out, "{\"ruleId\":", message.code)?;
-    push_text(alloc, out, ",\"level\":", message.level.name())?;
+    push_member(alloc, out, "{\"ruleId\":", message.code)?;
+    push_member(alloc, out, ",\"level\":", message.level.name())?;
     push_said(alloc, out, message)?;
     push_location(
         alloc,
@@ -96,7 +96,7 @@ fn push_result(alloc: Global, out: &mut String, message: &Message<'_>) -> Result
         push_related(alloc, out, first)?;
     }
     let print = fingerprint(alloc, message)?;
-    push_text(
+    push_member(
         alloc,
         out,
         ",\"partialFingerprints\":{\"place/v1\":",
@@ -125,7 +125,7 @@ fn push_related(alloc: Global, out: &mut String, first: &Other) -> Result<(), Al
 
 fn push_said(alloc: Global, out: &mut String, message: &Message<'_>) -> Result<(), AllocError> {
     let text = text_of(message)?;
-    push_text(alloc, out, ",\"message\":{\"text\":", text.as_str())?;
+    push_member(alloc, out, ",\"message\":{\"text\":", text.as_str())?;
     out.push('}')
 }
 
@@ -157,7 +157,7 @@ fn push_location(
     if line != 0 {
         push_region(out, line, column, width)?;
     }
-    push_text(
+    push_member(
         alloc,
         out,
         "},\"logicalLocations\":[{\"fullyQualifiedName\":",
@@ -168,7 +168,7 @@ fn push_location(
 
 fn push_file(alloc: Global, out: &mut String, file: &str) -> Result<(), AllocError> {
     let uri = uri_of(alloc, file)?;
-    push_text(
+    push_member(
         alloc,
         out,
         "{\"physicalLocation\":{\"artifactLocation\":{\"uri\":",
