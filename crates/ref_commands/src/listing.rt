@@ -208,7 +208,7 @@ fn push_described_place(
     write!(out, " base {}\n", place.base.as_str())
 }
 
-// The same as an object: `kind`, `version` and `draft` where it has one, and `base`.
+// The same as an object: `kind`, `version` of a place of a description, or `reached` of one of a schema, `draft` where it has one, and `base`.
 fn push_described_object(
     alloc: Global,
     out: &mut String,
@@ -225,8 +225,9 @@ fn push_described_object(
         pointer.as_str(),
     )?;
     push_member(alloc, out, ",\"kind\":", place.reading.kind.name())?;
-    if let Some(version) = place.reading.version {
-        push_member(alloc, out, ",\"version\":", version_name(version))?;
+    match place.reading.version {
+        Some(version) => push_member(alloc, out, ",\"version\":", version_name(version))?,
+        None => out.push_str(",\"reached\":true")?,
     }
     if place.reading.is_by_draft() {
         push_member(alloc, out, ",\"draft\":", place.reading.draft.name())?;
