@@ -133,10 +133,10 @@ no_value d v =
 -- events one by one
 one_more : (text : List ℕ) (e : Event) (es : List Event) → IsWithin (length text) e → IsInPlace text e → All (IsWithin (length text)) es × All (IsInPlace text) es
     → All (IsWithin (length text)) (e ∷ es) × All (IsInPlace text) (e ∷ es)
-one_more text e es within place more = (All-cons e es within more.0, All-cons e es place more.1)
+one_more text e es within place more = (All-cons (IsWithin (length text)) e es within more.0, All-cons (IsInPlace text) e es place more.1)
 
 none : (text : List ℕ) → All (IsWithin (length text)) [] × All (IsInPlace text) []
-none text = (All-nil, All-nil)
+none text = (All-nil (IsWithin (length text)), All-nil (IsInPlace text))
 
 quoted_events : AreEventsOf rows.quoted (rows.quoted_event ∷ [])
 quoted_events =
@@ -155,7 +155,7 @@ named_events =
     let last = one_more rows.named end [] (omega arith, omega arith) (refl, λ h. refl) (none rows.named) in
     let two = one_more rows.named b (end ∷ []) (omega arith, omega arith) (refl, λ h. refl) last in
     let three = one_more rows.named key (b ∷ end ∷ []) (omega arith, omega arith) (refl, λ h. refl) two in
-    let all = one_more rows.named begin (key ∷ b ∷ end ∷ []) (omega arith, omega arith) (refl, λ h. absurd (cc)) three in
+    let all = one_more rows.named begin (key ∷ b ∷ end ∷ []) (omega arith, omega arith) (refl, λ h. refl) three in
     (all.0, all.1, omega arith)
 
 pub named_read : IsYamlOf rows.named (object (put (codes "a") (string (codes "b")) no_members))

@@ -8,10 +8,6 @@ use Rattle.ref_yaml.proofs.value.from_str.Goals as goal
 pub returns-in-Ok-clause-tree : goal.returns-in-Ok-clause-tree
 returns-in-Ok-clause-tree c =
     let document = c.in-Ok.document in
-    IfOk-weaker c.value.result _ _
-    (λ v is. (
-      document.events.items,
-      subst (λ (t : List ℕ). AreEventsOf t document.events.items × IsValue t document.events.items (view v) []) c.in-Ok.ensures.text
-          ((document.within, document.in_place, document.bound), is),
-    ))
-    c.value.ensures.tree
+    let events = document.events.items in
+    let within = subst (λ (t : List ℕ). AreEventsOf t events) c.in-Ok.ensures.text (document.within, document.in_place, document.bound) in
+    IfOk-weaker c.value.result _ _ (λ v is. (events, within, subst (λ (t : List ℕ). IsValue t events (view v) []) c.in-Ok.ensures.text is)) c.value.ensures.tree
