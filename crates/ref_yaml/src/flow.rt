@@ -194,11 +194,11 @@ impl Parser<'_> {
     // The anchor and the tag of a part, which may be on two lines.
     fn flow_properties(&mut self, floor: usize, after: usize) -> Result<Properties, Stop> {
         self.check_part(floor)?;
+        if !matches!(self.byte(), b'&' | b'!') {
+            return Ok(Properties::none(after));
+        }
         let first = self.properties(after)?;
         self.check_part(floor)?;
-        if !first.are_some() {
-            return Ok(first);
-        }
         let second = self.properties(first.end)?;
         self.check_part(floor)?;
         first.and(second)
