@@ -1,9 +1,11 @@
 -- Which values events have, and which have none: for rows.
-use Rattle.std.proofs.Common.{◌≡◌, ◌⊎◌, inl, inr, ℕ, List, [], ◌∷◌, ◌++◌, true, false, Option, Some, None, IsTrue, get_or, drop, refl, ap, sym, ◌∙◌, subst, codes}
+use Rattle.std.proofs.Common.{◌≡◌, ◌⊎◌, inl, inr, ℕ, List, [], ◌∷◌, true, false, Some, None, IsTrue, get_or, drop, length, All, refl, ap, sym, ◌∙◌, subst, codes, arith}
+use Rattle.std.proofs.lemmas.List.Elements.{All-nil, All-cons}
 use Rattle.serde_json.specs.Data.{Data, string, array, object, Members, no_members, put}
 use Rattle.serde_json.specs.Find.{get_member}
 use Rattle.serde_json.specs.View.{items_of}
-use Rattle.ref_yaml.specs.Events.{is_scalar}
+use Rattle.ref_yaml.specs.Documents.{AreEventsOf, IsYamlOf}
+use Rattle.ref_yaml.specs.Events.{is_scalar, IsWithin, IsInPlace}
 use Rattle.ref_yaml.specs.Values.{IsValue, AreItems, AreMembers, IsText, IsScalar, scalar, list, members, no_item, one_more_item, no_member, one_more_member}
 use Rattle.ref_yaml.specs.Rows as rows
 use Rattle.ref_yaml.specs.declared.event.Event.{Event}
@@ -127,3 +129,34 @@ no_value d v =
       | inl p ↦ no_tail is.1 k b (l ∷ c ∷ end ∷ []) p.0
       | inr p ↦ no_tail is.1 l c (end ∷ []) p.0
     ]
+
+-- events one by one
+one_more : (text : List ℕ) (e : Event) (es : List Event) → IsWithin (length text) e → IsInPlace text e → All (IsWithin (length text)) es × All (IsInPlace text) es
+    → All (IsWithin (length text)) (e ∷ es) × All (IsInPlace text) (e ∷ es)
+one_more text e es within place more = (All-cons (IsWithin (length text)) e es within more.0, All-cons (IsInPlace text) e es place more.1)
+
+none : (text : List ℕ) → All (IsWithin (length text)) [] × All (IsInPlace text) []
+none text = (All-nil (IsWithin (length text)), All-nil (IsInPlace text))
+
+quoted_events : AreEventsOf rows.quoted (rows.quoted_event ∷ [])
+quoted_events =
+    let all = one_more rows.quoted rows.quoted_event [] (omega arith, omega arith) (refl, λ h. refl) (none rows.quoted) in
+    (all.0, all.1, omega arith)
+
+pub quoted_read : IsYamlOf rows.quoted (string (codes "it's"))
+quoted_read = (rows.quoted_event ∷ [], quoted_events, quoted_value)
+
+named_events : AreEventsOf rows.named rows.named_events
+named_events =
+    let begin = rows.event BeginObject 0 0 in
+    let key = rows.key Plain 1 2 in
+    let b = rows.event SingleQuoted 4 7 in
+    let end = rows.event EndObject 7 8 in
+    let last = one_more rows.named end [] (omega arith, omega arith) (refl, λ h. refl) (none rows.named) in
+    let two = one_more rows.named b (end ∷ []) (omega arith, omega arith) (refl, λ h. refl) last in
+    let three = one_more rows.named key (b ∷ end ∷ []) (omega arith, omega arith) (refl, λ h. refl) two in
+    let all = one_more rows.named begin (key ∷ b ∷ end ∷ []) (omega arith, omega arith) (refl, λ h. refl) three in
+    (all.0, all.1, omega arith)
+
+pub named_read : IsYamlOf rows.named (object (put (codes "a") (string (codes "b")) no_members))
+named_read = (rows.named_events, named_events, named_value)

@@ -4,3 +4,4 @@ pub mod Trees
 pub mod Numbers
 pub mod OneLine
 pub mod Derivations
+pub mod Digits

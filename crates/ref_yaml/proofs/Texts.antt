@@ -1,5 +1,5 @@
 -- Texts with escapes, a byte at a time.
-use Rattle.std.proofs.Common.{◌≡◌, ℕ, List, ◌∷◌, ◌++◌, ◌∙◌, Option, Some, None, option_map, refl, ap, sym, append_assoc, false, Result, Ok, Err, IfErr, IsUtf8}
+use Rattle.std.proofs.Common.{◌≡◌, ℕ, List, ◌∷◌, ◌++◌, ◌∙◌, Option, Some, None, option_map, refl, ap, sym, append_assoc, false, Result, Ok, Err, IfErr}
 use Rattle.ref_yaml.specs.Flow.{with_feeds}
 use Rattle.ref_yaml.specs.Block.{after_header, chomping_of, literal_text, folded_text}
 use Rattle.ref_yaml.specs.Scalars.{literal_scalar, folded_scalar}

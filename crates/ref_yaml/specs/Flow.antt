@@ -36,7 +36,7 @@ is_white b = (b == 32) || (b == 9)
 -- nothing (7.3.1). `after` says whether a backslash is before, `white` is the white space since the last other character, and `breaks` the line
 -- breaks since then, the first of which was escaped where `joined` says so.
 abbrev pub folded : Bool → Bool → List ℕ → ℕ → Bool → List ℕ → List ℕ
-folded escapes after white breaks joined [] = between breaks joined ++ white
+folded escapes after white breaks joined [] = if after then 92 ∷ [] else between breaks joined ++ white
 folded escapes after white breaks joined (b ∷ t) =
     if after then
     (if b == 10 then folded escapes false white breaks true t

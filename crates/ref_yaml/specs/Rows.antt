@@ -155,6 +155,10 @@ half = codes "\\ud83d"
 abbrev pub few_digits : List ℕ
 few_digits = codes "\\x4"
 
+-- and a backslash that is the last character
+abbrev pub last_backslash : List ℕ
+last_backslash = codes "a\\"
+
 -- line breaks of all kinds (5.4), and as line feeds
 abbrev pub returns : List ℕ
 returns = 97 ∷ 13 ∷ 10 ∷ 98 ∷ 13 ∷ 13 ∷ 99 ∷ 10 ∷ []

@@ -1,10 +1,11 @@
 //! Lists and objects of a block (8.2). A `depth` is how many levels may still begin.
 use crate::block_scalar::block_scalar;
-use crate::bytes::{after_white, is_blank, peek};
+use crate::bytes::{after_white, is_blank, is_break, peek};
 use crate::cursor::Cursor;
 use crate::event::{Event, Kind};
 use crate::fault::{Fault, Stop};
 use crate::parser::{Parser, Properties};
+use crate::scan::plain_line_end;
 
 // Where a value of a block may be.
 #[derive(Clone, Copy, Drop)]
@@ -69,6 +70,9 @@ impl Parser<'_> {
         if !self.is_inside(place) {
             return self.push_empty(Properties::none(place.after));
         }
+        if self.short_scalar(place)? {
+            return Ok(());
+        }
         let mut node = Node {
             start: self.here,
             outer: Properties::none(place.after),
@@ -84,6 +88,26 @@ impl Parser<'_> {
             }
         }
         self.content(place, node, depth)
+    }
+
+    // Adds a plain scalar that begins with a letter or a digit and ends its line, where the lines after it are indented too
+    // little to belong to it, and goes on after it. Returns whether there is one.
+    fn short_scalar(&mut self, place: Place) -> Result<bool, Stop> {
+        if !self.byte().is_ascii_alphanumeric() {
+            return Ok(false);
+        }
+        let start = self.here.at;
+        let end = plain_line_end(self.text, start, false);
+        if !is_break(peek(self.text, end)) {
+            return Ok(false);
+        }
+        let next = Cursor::after(self.text, end, self.here.line);
+        if next.at < self.text.len() && next.indent >= place.floor {
+            return Ok(false);
+        }
+        self.push(Event::new(Kind::Plain, start, end))?;
+        self.here = next;
+        Ok(true)
     }
 
     // The value whose properties end a line. They may be on two lines.

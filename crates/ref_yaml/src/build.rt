@@ -1,6 +1,6 @@
 //! The value that events are.
 ghost use Rattle.std.specs.Prelude.{◌≡◌, false, ◌+◌, ◌≤◌, ◌∷◌, ◌++◌, [], ℕ, List, Some, IfOk, OnOk, IfSome, IsTrue, drop, map, string_bytes, is_some};
-ghost use Rattle.serde_json.specs.Data.{Items, Members, array, object, put as with_member, depth as nesting, items_depth, members_depth};
+ghost use Rattle.serde_json.specs.Data.{Items, Members, number, unsigned, array, object, put as with_member, depth as nesting, items_depth, members_depth};
 ghost use Rattle.serde_json.specs.Find.{get_member};
 ghost use Rattle.serde_json.specs.View.{view, items_view, members_view};
 ghost use Rattle.ref_yaml.specs.Core.{core_value};
@@ -11,7 +11,8 @@ ghost use Rattle.ref_yaml.specs.declared.event.Kind.TheVariants.{BeginArray, Beg
 use crate::core_schema::{fits, fits_array, fits_object, plain_value};
 use crate::event::{Event, Kind, Tag};
 use crate::fault::{Fault, Stop};
-use crate::text::{line_of, text_of};
+use crate::text::{line_of, part, text_of};
+use crate::whole::whole_value;
 use serde_json::{Map, Value};
 use std::alloc::{AllocError, Global};
 
@@ -134,11 +135,25 @@ impl Builder<'_> {
             × (core_value s ≡ Some (view v))) }
         ensures depth { IfOk result (λ v. nesting (view v) ≡ 0) }
     {
+        if let Some(number) = self.whole(event) {
+            return Ok(Value::from(number));
+        }
         if let Some(line) = self.plain_line(event) {
             return plain_value(self.alloc, line, event.start);
         }
         let text = self.text(event)?;
         plain_value(self.alloc, text.as_str(), event.start)
+    }
+
+    // The number that a plain scalar is, where it is a few digits.
+    fn whole(&self, event: &Event) -> Option<u64>
+        ensures value { IfSome result (λ n. (s : List ℕ) × IsText self.now.text.now event.now s
+            × (core_value s ≡ Some (number (unsigned n)))) }
+    {
+        if event.kind != Kind::Plain {
+            return None;
+        }
+        whole_value(part(self.text, event.start, event.end))
     }
 
     // The text of a plain scalar that is on one line.

@@ -6,6 +6,7 @@ ghost use Rattle.serde_json.specs.Data.{Data, array, object, number, string, boo
 ghost use Rattle.serde_json.specs.View.{items_of};
 ghost use Rattle.ref_yaml.specs.Block.{literal_text, folded_text};
 ghost use Rattle.ref_yaml.specs.Core.{core_value, as_json, parts_of};
+ghost use Rattle.ref_yaml.specs.Documents.{IsYamlOf};
 ghost use Rattle.ref_yaml.specs.Events.{IsInPlace, are_apart, has_ends, is_scalar as is_scalar_kind, may_begin, most_events};
 ghost use Rattle.ref_yaml.specs.Flow.{with_feeds};
 ghost use Rattle.ref_yaml.specs.Scalars.{plain_text, single_text, double_text, literal_scalar, folded_scalar};
@@ -79,6 +80,7 @@ pub(crate) fn no_texts()
     ensures letter { double_text rows.no_escape ≡ None }
     ensures half { double_text rows.half ≡ None }
     ensures digits { double_text rows.few_digits ≡ None }
+    ensures last { double_text rows.last_backslash ≡ None }
     ensures breaks { with_feeds false rows.returns ≡ rows.returns_feeds }
     ensures after_a_return { with_feeds true (codes "a") ≡ codes "a" }
 {}
@@ -149,5 +151,8 @@ pub(crate) fn values()
         (array (items_of (string (codes "a") ∷ string (codes "b") ∷ []))) [] }
     ensures members { IsValue rows.named rows.named_events
         (object (put (codes "a") (string (codes "b")) no_members)) [] }
+    ensures read { IsYamlOf rows.quoted (string (codes "it's")) }
+    ensures read_object { IsYamlOf rows.named
+        (object (put (codes "a") (string (codes "b")) no_members)) }
     ensures same_key { (d : Data) → ¬ (IsValue rows.twice rows.twice_events d []) }
 {}

@@ -72,8 +72,25 @@ impl Expander<'_> {
         Ok(())
     }
 
+    // What is wrong in what an alias means: where that is too much, it is so at the alias.
+    fn at_alias(&self, index: usize, outcome: Result<(), Stop>) -> Result<(), Stop> {
+        let event = self.event(index);
+        match outcome {
+            Err(Stop::At(Fault::Expansion, _)) if event.kind == Kind::Alias => {
+                Err(Stop::At(Fault::Expansion, event.start))
+            }
+            other => other,
+        }
+    }
+
     #[cycle(emit)]
     fn emit(&mut self, index: usize, depth: usize) -> Result<(), Stop> {
+        let outcome = self.emit_meant(index, depth);
+        self.at_alias(index, outcome)
+    }
+
+    #[cycle(emit)]
+    fn emit_meant(&mut self, index: usize, depth: usize) -> Result<(), Stop> {
         let mut event = self.event(self.target(index));
         event.is_key = self.event(index).is_key;
         if event.is_leaf() {
@@ -246,6 +263,7 @@ impl Expander<'_> {
             return Err(Stop::At(Fault::Depth, start));
         }
         self.count(&self.event(from))?;
-        self.merge(from, names, depth, levels - 1)
+        let outcome = self.merge(from, names, depth, levels - 1);
+        self.at_alias(index, outcome)
     }
 }

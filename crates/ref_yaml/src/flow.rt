@@ -191,12 +191,23 @@ impl Parser<'_> {
         self.flow_node(floor, after, depth)
     }
 
+    // The anchor and the tag of a part, which may be on two lines.
+    fn flow_properties(&mut self, floor: usize, after: usize) -> Result<Properties, Stop> {
+        self.check_part(floor)?;
+        if !matches!(self.byte(), b'&' | b'!') {
+            return Ok(Properties::none(after));
+        }
+        let first = self.properties(after)?;
+        self.check_part(floor)?;
+        let second = self.properties(first.end)?;
+        self.check_part(floor)?;
+        first.and(second)
+    }
+
     // The value that is here, or an empty one.
     #[cycle(flow)]
     fn flow_node(&mut self, floor: usize, after: usize, depth: usize) -> Result<(), Stop> {
-        self.check_part(floor)?;
-        let own = self.properties(after)?;
-        self.check_part(floor)?;
+        let own = self.flow_properties(floor, after)?;
         match self.byte() {
             b'[' | b'{' => self.flow_list(floor, own, depth),
             b',' | b']' | b'}' => self.push_empty(own),

@@ -92,6 +92,10 @@ pub(crate) fn folded(alloc: Global, source: &[u8], escapes: bool) -> Result<Vec<
             }
         }
     }
+    if is_escaped {
+        out.push(b'\\')?;
+        return Ok(out);
+    }
     push_gap(&mut out, white.as_slice(), breaks, is_joined)?;
     Ok(out)
 }

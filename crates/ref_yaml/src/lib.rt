@@ -36,6 +36,7 @@ mod scalar;
 mod scan;
 mod text;
 mod value;
+mod whole;
 
 pub use document::Document;
 pub use event::{Event, Kind, NOWHERE, Tag};

@@ -113,7 +113,7 @@ fn without_zeros(digits: &[u8]) -> &[u8]
 }
 
 // Whether JSON may have these digits before a point.
-fn is_json_whole(digits: &[u8]) -> bool
+pub(crate) fn is_json_whole(digits: &[u8]) -> bool
     ensures value { IsTrue result → spec.without_zeros digits.now ≡ digits.now }
 {
     !digits.is_empty() && (byte_at(digits, 0) != b'0' || digits.len() == 1)

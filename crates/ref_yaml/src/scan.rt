@@ -25,15 +25,19 @@ fn ends_before(text: &str, at: usize, from: usize, is_flow: bool) -> bool {
 }
 
 // The end of a plain scalar's line, without the white space after it.
-fn plain_line_end(text: &str, from: usize, is_flow: bool) -> usize {
+pub(crate) fn plain_line_end(text: &str, from: usize, is_flow: bool) -> usize {
     let mut end = from;
     for at in from..text.len() {
-        if ends_before(text, at, from, is_flow) {
-            break;
+        let byte = peek(text, at);
+        if !byte.is_ascii_alphanumeric() {
+            if ends_before(text, at, from, is_flow) {
+                break;
+            }
+            if is_white(byte) {
+                continue;
+            }
         }
-        if !is_white(peek(text, at)) {
-            end = at + 1;
-        }
+        end = at + 1;
     }
     end
 }

@@ -17,7 +17,7 @@ use crate::lines::{after_header, chomping_of, folded_text, literal_text};
 use std::alloc::{AllocError, Global};
 
 // The bytes from one offset to another.
-fn part(text: &str, from: usize, to: usize) -> &[u8]
+pub(crate) fn part(text: &str, from: usize, to: usize) -> &[u8]
     ensures value { result.now ≡ spec.part text.now from to }
 {
     let bytes = text.as_bytes();

@@ -1,4 +1,3 @@
-use Rattle.std.proofs.Common.{◌≡◌}
 use Rattle.ref_yaml.specs.Scalars as spec
 use Rattle.ref_yaml.proofs.Texts.{no_text_of}
 use Rattle.ref_yaml.proofs.text.text_of.Goals as goal

@@ -4,6 +4,9 @@ use Rattle.ref_yaml.proofs.expand.Expander.+emit.Given as goal
 abbrev pub decreases-emit : goal.decreases-emit
 decreases-emit l = 1000 * l.depth + 1
 
+abbrev pub decreases-emit_meant : goal.decreases-emit_meant
+decreases-emit_meant l = 1000 * l.depth
+
 abbrev pub decreases-items : goal.decreases-items
 decreases-items l = 1000 * l.depth + 2
 
