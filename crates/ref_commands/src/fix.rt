@@ -50,7 +50,7 @@ pub fn fix(
     listing: &mut Listing,
     opened: &mut Opened<'_>,
 ) -> Result<usize, Stop> {
-    let fixes = fixes_of(rt, given, listing, opened)?;
+    let fixes = fixes_of(rt, given, listing, &*opened)?;
     let sources = sources_of(rt.alloc(), &opened.workspace, fixes.as_slice())?;
     let fixes = tried(rt.alloc(), &mut opened.workspace, sources.as_slice(), fixes)?;
     for source in &sources {
@@ -64,12 +64,12 @@ pub fn fix(
             console.out.push_str(lines.as_str())?;
             console.pass()?;
         } else {
-            write(rt, opened, source)?;
+            write(rt, &*opened, source)?;
         }
     }
     if !given.get_flag("dry-run") {
         for fix in &fixes {
-            say_fixed(rt, opened, fix)?;
+            say_fixed(rt, &*opened, fix)?;
         }
     }
     console.finish()?;
