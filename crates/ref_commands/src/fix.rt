@@ -137,11 +137,16 @@ fn fixes_of(
             let fix = fix_of(alloc, opened, listing, &mut known, finding, &message);
             drop(message);
             if let Some(fix) = fix? {
-                fixes.push(fix)?;
+                push(&mut fixes, fix)?;
             }
         }
     }
     Ok(fixes)
+}
+
+fn push(fixes: &mut Vec<Fix>, fix: Fix) -> Result<(), AllocError> {
+    fixes.push(fix)?;
+    Ok(())
 }
 
 // What mends a finding in a file that is asked about, where it is listed, and one text alone is meant.
