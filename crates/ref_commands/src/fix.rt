@@ -8,13 +8,16 @@ use ref_command_line::{Console, Stop, say, say_of};
 use ref_files::{DocumentText, WriteError, write_file};
 use ref_findings::Level as Severity;
 use ref_fixes::{Replacement, meant_text, mended, replaced, unified};
-use ref_messages::Message;
+use ref_messages::{Message, Plain};
 use ref_parts::pointer_of;
 use ref_workspace::{Describer, Finding, Workspace};
 use serde_json::Value;
 use std::alloc::{AllocError, Global};
 use std::collections::BTreeMap;
-use std::io;
+use std::{fs, io};
+
+// The byte order mark, which is passed over at the beginning of a file.
+const MARK: &str = "\u{feff}";
 
 // A text under a keyword that is to be another one.
 #[derive(Drop)]
@@ -42,7 +45,7 @@ struct Source {
 
 /// Mends the references whose messages suggest one text alone, where what is meant leads somewhere: the documents are judged with all of it
 /// mended, and what is still an error is left as it was, until nothing is. Returns how many are mended. Each file is replaced in one
-/// step; with `--dry-run` none is, and the lines that would change are printed.
+/// step, unless it isn't what was read any more; with `--dry-run` none is, and the lines that would change are printed.
 pub fn fix(
     rt: &HostRuntime,
     console: &mut Console<'_>,
@@ -53,52 +56,130 @@ pub fn fix(
     let fixes = fixes_of(rt, given, listing, &*opened)?;
     let sources = sources_of(rt.alloc(), &opened.workspace, fixes.as_slice())?;
     let fixes = tried(rt.alloc(), &mut opened.workspace, sources.as_slice(), fixes)?;
+    let is_dry = given.get_flag("dry-run");
+    let mut count: usize = 0;
     for source in &sources {
         let parts = parts_of(rt.alloc(), fixes.as_slice(), source.number)?;
         if parts.is_empty() {
             continue;
         }
-        if given.get_flag("dry-run") {
-            let name = opened.workspace.name(source.number);
-            let lines = unified(rt.alloc(), name, source.text.as_str(), parts.as_slice())?;
-            console.out.push_str(lines.as_str())?;
-            console.pass()?;
+        let Some(mark) = mark_of(rt, &*opened, source)? else {
+            opened.has_failed = true;
+            continue;
+        };
+        count = count.saturating_add(parts.len());
+        if is_dry {
+            print(rt, console, &*opened, source, (mark, parts))?;
         } else {
-            write(rt, &*opened, source)?;
-        }
-    }
-    if !given.get_flag("dry-run") {
-        for fix in &fixes {
-            say_fixed(rt, &*opened, fix)?;
+            write(rt, &*opened, source, mark)?;
+            say_fixed(rt, &*opened, fixes.as_slice(), source.number)?;
         }
     }
     console.finish()?;
-    Ok(fixes.len())
+    Ok(count)
 }
 
-// Says what a text was and is now.
-fn say_fixed(rt: &HostRuntime, opened: &Opened<'_>, fix: &Fix) -> Result<(), AllocError> {
-    let name = opened.workspace.name(fix.source);
-    let place = format!(in rt.alloc(); "{name}:{}:{}", fix.line, fix.column)?;
-    let what = format!(in rt.alloc();
-        "{} '{}' is now '{}'",
-        fix.keyword.as_str(),
-        fix.text.as_str(),
-        fix.meant.as_str()
-    )?;
-    say_of(rt, place.as_str(), what);
+// What is before the text of a document in its file now: a byte order mark or nothing. Where the file has another text, that is said, and there is none.
+fn mark_of(
+    rt: &HostRuntime,
+    opened: &Opened<'_>,
+    source: &Source,
+) -> Result<Option<&'static str>, Stop> {
+    let Some(path) = opened.paths.get(source.number) else {
+        return Ok(None);
+    };
+    let path = path.as_str();
+    let now = match fs::read_to_string(rt, path) {
+        Ok(now) => now,
+        Err(error) if error.kind() == io::ErrorKind::OutOfMemory => return Err(Stop::Memory),
+        Err(error) => {
+            say_of(rt, path, error);
+            return Ok(None);
+        }
+    };
+    let text = source.text.as_str();
+    if now.as_str() == text {
+        return Ok(Some(""));
+    }
+    if now.as_str().strip_prefix(MARK) == Some(text) {
+        return Ok(Some(MARK));
+    }
+    say_of(
+        rt,
+        path,
+        "was changed since it was read, and is left as it is",
+    );
+    Ok(None)
+}
+
+// Prints the lines of a file that would change.
+fn print(
+    rt: &HostRuntime,
+    console: &mut Console<'_>,
+    opened: &Opened<'_>,
+    source: &Source,
+    (mark, parts): (&str, Vec<Replacement>),
+) -> Result<(), Stop> {
+    let alloc = rt.alloc();
+    let mut all = Vec::with_capacity(alloc, parts.len())?;
+    for part in parts {
+        push_after(&mut all, part, mark.len())?;
+    }
+    let text = [mark, source.text.as_str()].join(alloc, "")?;
+    let name = opened.workspace.name(source.number);
+    let lines = unified(alloc, name, text.as_str(), all.as_slice())?;
+    console.out.push_str(lines.as_str())?;
+    console.pass()
+}
+
+// Adds a part of a text that has so many bytes more before it.
+fn push_after(
+    parts: &mut Vec<Replacement>,
+    part: Replacement,
+    more: usize,
+) -> Result<(), AllocError> {
+    let Replacement { start, end, text } = part;
+    parts.push(Replacement {
+        start: start.saturating_add(more),
+        end: end.saturating_add(more),
+        text,
+    })?;
     Ok(())
 }
 
-// Writes the text that a document has now to its file.
-fn write(rt: &HostRuntime, opened: &Opened<'_>, source: &Source) -> Result<(), Stop> {
+// Says what the texts of a document were and are now.
+fn say_fixed(
+    rt: &HostRuntime,
+    opened: &Opened<'_>,
+    fixes: &[Fix],
+    number: usize,
+) -> Result<(), AllocError> {
+    let name = opened.workspace.name(number);
+    for fix in fixes {
+        if fix.source == number {
+            let place = format!(in rt.alloc(); "{name}:{}:{}", fix.line, fix.column)?;
+            let what = format!(in rt.alloc();
+                "{} '{}' is now '{}'",
+                Plain(fix.keyword.as_str()),
+                Plain(fix.text.as_str()),
+                Plain(fix.meant.as_str())
+            )?;
+            say_of(rt, place.as_str(), what);
+        }
+    }
+    Ok(())
+}
+
+// Writes the text that a document has now to its file, after a mark.
+fn write(rt: &HostRuntime, opened: &Opened<'_>, source: &Source, mark: &str) -> Result<(), Stop> {
     let (Some(path), Some(document)) = (
         opened.paths.get(source.number),
         opened.workspace.documents().get(source.number),
     ) else {
         return Ok(());
     };
-    match write_file(rt, path.as_str(), document.text.text.as_str()) {
+    let text = [mark, document.text.text.as_str()].join(rt.alloc(), "")?;
+    match write_file(rt, path.as_str(), text.as_str()) {
         Ok(()) => Ok(()),
         Err(WriteError::Memory) => Err(Stop::Memory),
         Err(WriteError::File { path, error }) => {
