@@ -46,7 +46,7 @@ struct Source {
 /// Mends the references whose messages suggest one text alone, where what is meant leads somewhere: the documents are judged with all of it
 /// mended, and what is still an error is left as it was, until nothing is. Returns how many are mended. Each file is replaced in one
 /// step, unless it isn't what was read any more; with `--dry-run` none is, and the lines that would change are printed.
-pub fn fix(
+pub fn make_fixes(
     rt: &HostRuntime,
     console: &mut Console<'_>,
     given: &ArgMatches<'_>,

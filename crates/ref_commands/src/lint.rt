@@ -1,5 +1,5 @@
 //! `patchsard lint`.
-use crate::fix::fix;
+use crate::fix::make_fixes;
 use crate::known::Known;
 use crate::left_out::{say_broken, say_leniencies, say_unplaced};
 use crate::listed::{Form, Listing, Statistics};
@@ -56,7 +56,7 @@ pub fn lint<'a>(
     let mut opened = open_given(rt, given, configured)?;
     let mut fixed: usize = 0;
     if given.get_flag("fix") {
-        fixed = fix(rt, console, given, &mut listing, &mut opened)?;
+        fixed = make_fixes(rt, console, given, &mut listing, &mut opened)?;
         if given.get_flag("dry-run") {
             let has_failed = opened.has_failed;
             let _ = opened.keep();
