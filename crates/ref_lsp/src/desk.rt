@@ -158,6 +158,9 @@ impl<'r> Desk<'r> {
             }
             self.enter(file)?;
         }
+        for (_, index) in new.as_slice().get(next..).unwrap_or(&[]) {
+            self.place(*index)?;
+        }
         self.passed = read.passed;
         Ok(())
     }
