@@ -1,4 +1,5 @@
 pub mod LineFeeds
+pub mod Chomping
 pub mod Texts
 pub mod Trees
 pub mod Numbers

@@ -1,7 +1,7 @@
 -- A text of one line without marks is its own bytes.
 use Rattle.std.proofs.Common.{◌≡◌, ◌≢◌, ℕ, Bool, true, false, ◌==◌, List, [], ◌∷◌, ◌++◌, Some, option_map, All, refl, sym, ap, ◌∙◌, append-nil, append_assoc}
 use Rattle.std.proofs.lemmas.List.Elements.{All-head, All-tail}
-use Rattle.std.proofs.lemmas.Bool.{ne_eqb}
+use Rattle.std.proofs.lemmas.Bool.{ne_eqb, eqb-true}
 use Rattle.ref_yaml.specs.Flow.{with_feeds, with_quotes, is_white, folded}
 use Rattle.ref_yaml.specs.Escapes.{unescaped}
 use Rattle.ref_yaml.specs.Scalars.{plain_text, single_text, double_text}
@@ -52,3 +52,28 @@ single_same xs all = plain_same 39 xs all ∙ sym (ap plain_text (quotes_same xs
 
 pub double_same : (xs : List ℕ) → All (IsWithoutMark 92) xs → Some xs ≡ double_text xs
 double_same xs all = sym (ap (λ ys. unescaped (folded true false [] 0 false ys)) (feeds_same 92 xs all) ∙ ap unescaped (folded_same true 92 [] xs (λ is. refl) all) ∙ unescaped_same xs all)
+
+-- A text of one line is folded to itself, with a backslash before it or not.
+record Kept (xs : List ℕ) : Type 0 where
+  pub white : (before : List ℕ) → folded true false before 0 false xs ≡ before ++ xs
+  pub after : folded true true [] 0 false xs ≡ 92 ∷ xs
+
+kept_byte : (before : List ℕ) (b : ℕ) (xs : List ℕ) (w mark : Bool) → is_white b ≡ w → (b == 92) ≡ mark → b ≢ 10 → Kept xs → folded true false before 0 false (b ∷ xs) ≡ before ++ b ∷ xs
+kept_byte before b xs true mark is_w is_m apart kept = rw (unequal b 10 apart, is_w) (kept.white (before ++ b ∷ []) ∙ append_assoc before (b ∷ []) xs)
+kept_byte before b xs false true is_w is_m apart kept =
+    let same : b ≡ 92 = eqb-true b 92 is_m in
+    rw (unequal b 10 apart, is_w, is_m) (ap (λ ys. before ++ ys) kept.after ∙ ap (λ x. before ++ x ∷ xs) (sym same))
+kept_byte before b xs false false is_w is_m apart kept = rw (unequal b 10 apart, is_w, is_m) (ap (λ ys. before ++ b ∷ ys) (kept.white []))
+
+kept : (xs : List ℕ) → All (IsWithoutMark 10) xs → Kept xs
+kept [] all = record { white = λ before. sym (append-nil before); after = refl }
+kept (b ∷ xs) all =
+    let apart : b ≢ 10 = (first 10 b xs all).0 in
+    let more : Kept xs = kept xs (rest 10 b xs all) in
+    record {
+      white = λ before. kept_byte before b xs (is_white b) (b == 92) refl refl apart more;
+      after = rw (unequal b 10 apart) (ap (λ ys. 92 ∷ b ∷ ys) (more.white []));
+    }
+
+pub double_line : (xs : List ℕ) → All (IsWithoutMark 10) xs → unescaped xs ≡ double_text xs
+double_line xs all = sym (ap (λ ys. unescaped (folded true false [] 0 false ys)) (feeds_same 10 xs all) ∙ ap unescaped ((kept xs all).white []))

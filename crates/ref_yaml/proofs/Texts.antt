@@ -1,5 +1,6 @@
 -- Texts with escapes, a byte at a time.
-use Rattle.std.proofs.Common.{◌≡◌, ℕ, List, ◌∷◌, ◌++◌, ◌∙◌, Option, Some, None, option_map, refl, ap, sym, append_assoc, false, Result, Ok, Err, IfErr}
+use Rattle.std.proofs.Common.{◌≡◌, ◌≢◌, ℕ, List, [], ◌∷◌, ◌++◌, ◌∙◌, Option, Some, None, option_map, refl, ap, sym, append_assoc, false, Result, Ok, Err, IfErr}
+use Rattle.std.proofs.lemmas.Bool.{ne_eqb}
 use Rattle.ref_yaml.specs.Flow.{with_feeds}
 use Rattle.ref_yaml.specs.Block.{after_header, chomping_of, literal_text, folded_text}
 use Rattle.ref_yaml.specs.Scalars.{literal_scalar, folded_scalar}
@@ -7,7 +8,7 @@ use Rattle.ref_yaml.specs.Values.{IsNoText, IsTextStop, IsText}
 use Rattle.ref_yaml.specs.declared.event.Event.{Event}
 use Rattle.ref_yaml.specs.declared.fault.Stop.{Stop}
 use Rattle.ref_yaml.specs.declared.fault.Stop.TheVariants.{Memory, At}
-use Rattle.ref_yaml.specs.Escapes.{Reading, by_byte, unescaped_from}
+use Rattle.ref_yaml.specs.Escapes.{Reading, by_byte, nothing_read, unescaped_from}
 
 pub joined : (a b : List ℕ) (o : Option (List ℕ)) → option_map (λ s. a ++ s) (option_map (λ s. b ++ s) o) ≡ option_map (λ s. (a ++ b) ++ s) o
 joined a b None = refl
@@ -18,6 +19,10 @@ pub passed : (r next : Reading) (b : ℕ) (t out new s : List ℕ) (all : Option
 passed r next b t out new s all e o h =
     let k : option_map (λ x. out ++ x) (option_map (λ x. s ++ x) (unescaped_from next t)) ≡ all = rw e at h in
     rw o (sym (joined out s (unescaped_from next t)) ∙ k)
+
+-- a byte outside an escape stays
+pub by_outside : (r : Reading) (b : ℕ) → r ≡ nothing_read → b ≢ 92 → by_byte r b ≡ Some (b ∷ [], r)
+by_outside r b is apart = rw (is, ne_eqb b 92 apart) refl
 
 -- no text is so, where none is otherwise
 pub no_text_by : {T : Type 0} (r : Result T Stop) (P Q : List ℕ → Type 0) → ((s : List ℕ) → Q s → P s) → IfErr r (IsNoText P) → IfErr r (IsNoText Q)

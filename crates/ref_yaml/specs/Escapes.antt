@@ -93,5 +93,9 @@ abbrev pub unescaped_from : Reading → List ℕ → Option (List ℕ)
 unescaped_from r [] = if r.after || nat_lt 0 r.left || nat_lt 0 r.first then None else Some []
 unescaped_from r (b ∷ t) = option_and_then (λ p. option_map (λ s. p.0 ++ s) (unescaped_from p.1 t)) (by_byte r b)
 
+-- nothing of an escape is read
+abbrev pub nothing_read : Reading
+nothing_read = record { after = false; left = 0; number = 0; first = 0 }
+
 abbrev pub unescaped : List ℕ → Option (List ℕ)
-unescaped = unescaped_from (record { after = false; left = 0; number = 0; first = 0 })
+unescaped = unescaped_from nothing_read

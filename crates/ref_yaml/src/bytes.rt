@@ -7,6 +7,11 @@ pub(crate) fn peek(text: &str, at: usize) -> u8 {
     text.as_bytes().get(at).copied().unwrap_or(0)
 }
 
+// The bytes from an offset on.
+pub(crate) fn bytes_from(text: &str, from: usize) -> &[u8] {
+    text.as_bytes().get(from..).unwrap_or(&[])
+}
+
 pub(crate) fn is_white(byte: u8) -> bool
     ensures value { result ≡ is_white byte }
 {
@@ -47,12 +52,13 @@ pub(crate) fn after_white(text: &str, from: usize) -> usize {
 
 // Where the line ends, before its break.
 pub(crate) fn line_end(text: &str, from: usize) -> usize {
-    for at in from..text.len() {
-        if is_break(peek(text, at)) {
-            return at;
-        }
+    match bytes_from(text, from)
+        .iter()
+        .position(|byte| is_break(*byte))
+    {
+        Some(count) => from.saturating_add(count),
+        None => text.len(),
     }
-    text.len()
 }
 
 // Where the next line begins after a break, or the end of the text.

@@ -1,7 +1,7 @@
 //! Escapes in double quotes (5.7).
-ghost use Rattle.std.specs.Prelude.{◌≡◌, ◌<◌, ◌≤◌, ◌^◌, ◌++◌, ℕ, List, Some, None, false, IfOk, OnOk, IfSome, option_map};
+ghost use Rattle.std.specs.Prelude.{◌≡◌, ◌<◌, ◌≤◌, ◌^◌, ◌++◌, ℕ, List, Some, None, false, IfOk, OnOk, IfSome, IsTrue, option_map};
 ghost use Rattle.std.specs.Char.{encode_utf8};
-ghost use Rattle.ref_yaml.specs.Escapes.{short_escape, digits_of, hex_digit, is_first, is_second, character_of, number_text, by_letter, by_number, by_digit, by_byte, unescaped};
+ghost use Rattle.ref_yaml.specs.Escapes.{short_escape, digits_of, hex_digit, is_first, is_second, character_of, number_text, by_letter, by_number, by_digit, by_byte, nothing_read, unescaped};
 ghost use Rattle.ref_yaml.specs.Passing.{Passes, reading_of};
 
 use std::alloc::{AllocError, Global};
@@ -209,6 +209,13 @@ fn pass_byte(out: &mut Vec<u8>, reading: &Reading, byte: u8) -> Result<Option<Re
     }))
 }
 
+// Whether nothing of an escape is read.
+fn is_outside_of(reading: &Reading) -> bool
+    ensures value { IsTrue result → reading_of reading.now ≡ nothing_read }
+{
+    !reading.after && reading.left == 0 && reading.number == 0 && reading.first == 0
+}
+
 // A text with escapes, or nothing.
 pub(crate) fn unescaped(alloc: Global, source: &[u8]) -> Result<Option<Vec<u8>>, AllocError>
     ensures value { IfOk result (λ o. option_map (λ v. v.items) o ≡ unescaped source.now) }
@@ -220,11 +227,17 @@ pub(crate) fn unescaped(alloc: Global, source: &[u8]) -> Result<Option<Vec<u8>>,
         number: 0,
         first: 0,
     };
+    let mut is_outside = true;
     for byte in source {
-        let Some(next) = pass_byte(&mut out, &reading, *byte)? else {
-            return Ok(None);
-        };
-        reading = next;
+        if is_outside && *byte != b'\\' {
+            out.push(*byte)?;
+        } else {
+            let Some(next) = pass_byte(&mut out, &reading, *byte)? else {
+                return Ok(None);
+            };
+            is_outside = is_outside_of(&next);
+            reading = next;
+        }
     }
     if reading.after || 0 < reading.left || 0 < reading.first {
         return Ok(None);

@@ -4,7 +4,7 @@ use crate::bytes::peek;
 use crate::event::{Event, Kind};
 use crate::fault::{Fault, Leniency, Stop};
 use crate::parser::{Parser, Properties};
-use crate::scan::is_over;
+use crate::scan::{is_over, plain_line_end};
 
 impl Parser<'_> {
     // Whether what is here may be in brackets that a byte closes.
@@ -204,9 +204,28 @@ impl Parser<'_> {
         first.and(second)
     }
 
+    // Adds a plain scalar that begins with a letter or a digit, where a comma or a closing bracket ends it, and stands there. Returns
+    // whether there is one.
+    fn short_part(&mut self) -> Result<bool, Stop> {
+        let start = self.here.at;
+        if self.here.is_first || !self.byte().is_ascii_alphanumeric() {
+            return Ok(false);
+        }
+        let end = plain_line_end(self.text, start, true);
+        if !matches!(peek(self.text, end), b',' | b']' | b'}') {
+            return Ok(false);
+        }
+        self.push(Event::new(Kind::Plain, start, end))?;
+        self.stand(end);
+        Ok(true)
+    }
+
     // The value that is here, or an empty one.
     #[cycle(flow)]
     fn flow_node(&mut self, floor: usize, after: usize, depth: usize) -> Result<(), Stop> {
+        if self.short_part()? {
+            return Ok(());
+        }
         let own = self.flow_properties(floor, after)?;
         match self.byte() {
             b'[' | b'{' => self.flow_list(floor, own, depth),

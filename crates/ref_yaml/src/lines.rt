@@ -1,8 +1,9 @@
 //! The lines of literal and folded scalars (8.1).
-ghost use Rattle.std.specs.Prelude.{◌≡◌, ◌++◌, true, false, if◌then◌else◌, IfOk, OnOk};
+ghost use Rattle.std.specs.Prelude.{◌≡◌, ◌++◌, ◌∷◌, ◌||◌, [], false, if◌then◌else◌, IfOk, OnOk};
+ghost use Rattle.ref_yaml.specs.Flow as spec_flow;
 ghost use Rattle.ref_yaml.specs.Flow.{feeds, between};
 ghost use Rattle.ref_yaml.specs.Block as spec;
-ghost use Rattle.ref_yaml.specs.Block.{is_ended, block_lines, folded_lines, last_feeds, chomped, literal_text, folded_text};
+ghost use Rattle.ref_yaml.specs.Block.{is_ended, last_feeds, literal_text, folded_text};
 
 use crate::bytes::is_white;
 use crate::fold::{push_between, push_feeds};
@@ -69,6 +70,16 @@ fn missing_breaks(body: &[u8]) -> usize
     if is_ended(body) { 0 } else { 1 }
 }
 
+// Adds line feeds, which most bytes have none of before them.
+fn push_breaks(out: &mut Vec<u8>, breaks: usize) -> Result<(), AllocError>
+    ensures value { OnOk result (out.new.items ≡ out.old.items ++ feeds breaks) }
+{
+    if 0 < breaks {
+        push_feeds(out, breaks)?;
+    }
+    Ok(())
+}
+
 // Adds what is before a line of a folded scalar.
 fn push_before(out: &mut Vec<u8>, breaks: usize, is_kept: bool) -> Result<(), AllocError>
     ensures value { OnOk result
@@ -80,38 +91,15 @@ fn push_before(out: &mut Vec<u8>, breaks: usize, is_kept: bool) -> Result<(), Al
     push_between(out, breaks, false)
 }
 
-// The lines of a body, folded and each ended.
-fn folded_lines(alloc: Global, body: &[u8], indent: usize) -> Result<Vec<u8>, AllocError>
-    ensures value { IfOk result
-        (λ v. v.items ≡ folded_lines false true 0 (block_lines indent body.now)) }
+// Adds the first byte of a line of a folded scalar, and what is before it.
+fn push_first(out: &mut Vec<u8>, breaks: usize, was_white: bool, byte: u8) -> Result<(), AllocError>
+    ensures value { OnOk result (out.new.items ≡ out.old.items
+        ++ ((if was_white || spec_flow.is_white byte then feeds breaks else between breaks false)
+        ++ byte ∷ [])) }
 {
-    let mut out = Vec::with_capacity(alloc, body.len())?;
-    let mut left = indent;
-    let mut is_inside = false;
-    let mut was_white = true;
-    let mut breaks: usize = 0;
-    for byte in body {
-        if *byte == b'\n' {
-            left = indent;
-            is_inside = false;
-            breaks += 1;
-        } else if *byte == b' ' && 0 < left {
-            left -= 1;
-        } else if is_inside {
-            out.push(*byte)?;
-            left = 0;
-        } else {
-            let is_white = is_white(*byte);
-            push_before(&mut out, breaks, was_white || is_white)?;
-            out.push(*byte)?;
-            left = 0;
-            is_inside = true;
-            was_white = is_white;
-            breaks = 0;
-        }
-    }
-    push_feeds(&mut out, breaks + missing_breaks(body))?;
-    Ok(out)
+    push_before(out, breaks, was_white || is_white(byte))?;
+    out.push(byte)?;
+    Ok(())
 }
 
 // Adds what the last line breaks become.
@@ -131,27 +119,6 @@ fn push_last(
         out.push(b'\n')?;
     }
     Ok(())
-}
-
-// A text with its last line breaks as an indicator has them.
-fn chomped(alloc: Global, text: &[u8], chomping: u8) -> Result<Vec<u8>, AllocError>
-    ensures value { IfOk result (λ v. v.items ≡ chomped chomping false 0 text.now) }
-{
-    let mut out = Vec::with_capacity(alloc, text.len())?;
-    let mut has_text = false;
-    let mut breaks: usize = 0;
-    for byte in text {
-        if *byte == b'\n' {
-            breaks += 1;
-        } else {
-            push_feeds(&mut out, breaks)?;
-            out.push(*byte)?;
-            has_text = true;
-            breaks = 0;
-        }
-    }
-    push_last(&mut out, chomping, has_text, breaks)?;
-    Ok(out)
 }
 
 // The text of a body after `|`.
@@ -174,7 +141,7 @@ pub(crate) fn literal_text(
         } else if *byte == b' ' && left > 0 {
             left -= 1;
         } else {
-            push_feeds(&mut out, breaks)?;
+            push_breaks(&mut out, breaks)?;
             out.push(*byte)?;
             left = 0;
             has_text = true;
@@ -194,6 +161,29 @@ pub(crate) fn folded_text(
 ) -> Result<Vec<u8>, AllocError>
     ensures value { IfOk result (λ v. v.items ≡ folded_text chomping indent body.now) }
 {
-    let joined = folded_lines(alloc, body, indent)?;
-    chomped(alloc, joined.as_slice(), chomping)
+    let mut out = Vec::with_capacity(alloc, body.len())?;
+    let mut left = indent;
+    let mut is_inside = false;
+    let mut was_white = true;
+    let mut has_text = false;
+    let mut breaks: usize = 0;
+    for byte in body {
+        if *byte == b'\n' {
+            left = indent;
+            is_inside = false;
+            breaks += 1;
+        } else if is_inside {
+            out.push(*byte)?;
+        } else if *byte == b' ' && 0 < left {
+            left -= 1;
+        } else {
+            push_first(&mut out, breaks, was_white, *byte)?;
+            is_inside = true;
+            was_white = is_white(*byte);
+            has_text = true;
+            breaks = 0;
+        }
+    }
+    push_last(&mut out, chomping, has_text, breaks + missing_breaks(body))?;
+    Ok(out)
 }

@@ -1,5 +1,5 @@
 //! Where quoted texts end, and whether their lines are indented (7.3.1, 7.3.2).
-use crate::bytes::{is_break, peek};
+use crate::bytes::{bytes_from, is_break, peek};
 use crate::cursor::Cursor;
 use crate::scan::Span;
 
@@ -31,20 +31,20 @@ pub(crate) fn single_end(text: &str, from: usize) -> Option<Span> {
 pub(crate) fn double_end(text: &str, from: usize) -> Option<Span> {
     let mut is_escaped = false;
     let mut is_one_line = true;
-    for at in from..text.len() {
-        let byte = peek(text, at);
-        if is_break(byte) {
-            is_one_line = false;
-        }
-        if is_escaped {
-            is_escaped = false;
-        } else if byte == b'\\' {
-            is_escaped = true;
-        } else if byte == b'"' {
-            return Some(Span {
-                end: at,
-                is_one_line,
-            });
+    for (at, byte) in bytes_from(text, from).iter().enumerate() {
+        match *byte {
+            b'"' if !is_escaped => {
+                return Some(Span {
+                    end: from.saturating_add(at),
+                    is_one_line,
+                });
+            }
+            b'\\' => is_escaped = !is_escaped,
+            b'\n' | b'\r' => {
+                is_one_line = false;
+                is_escaped = false;
+            }
+            _ => is_escaped = false,
         }
     }
     None

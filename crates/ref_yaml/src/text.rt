@@ -102,6 +102,9 @@ fn double_text(alloc: Global, source: &[u8]) -> Result<Option<Vec<u8>>, AllocErr
     ensures value { IfOk result
         (λ o. option_map (λ v. v.items) o ≡ spec.double_text source.now) }
 {
+    if is_one_line(source, b'\n') {
+        return unescaped(alloc, source);
+    }
     let joined = folded_lines(alloc, source, true)?;
     unescaped(alloc, joined.as_slice())
 }
