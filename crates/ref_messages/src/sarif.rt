@@ -16,6 +16,9 @@ pub struct Rule {
 const HEAD: &str =
     "{\"$schema\":\"https://json.schemastore.org/sarif-2.1.0.json\",\"version\":\"2.1.0\",\"runs\":[{\"tool\":{\"driver\":{\"name\":\"patchsard\"";
 
+// Where the page of the rules is, docs/RULES.md of the repository, with a section for each name.
+const RULES: &str = "https://patchsard.example/docs/RULES.md#";
+
 /// Adds a log of messages, one result a line. Files' names go into it as relative URIs, or `file:` URIs where they are
 /// absolute paths. A region ends where the marked part of a message's excerpt does. What wasn't looked at, where something wasn't, makes the run an unsuccessful one. The
 /// fingerprint of a result is a text of its rule, its file, its pointer, its keyword and what is under that, so that it stays where lines are added above it.
@@ -47,7 +50,10 @@ fn push_rules(alloc: Global, out: &mut String, rules: &[Rule]) -> Result<(), All
 fn push_rule(alloc: Global, out: &mut String, rule: Rule) -> Result<(), AllocError> {
     push_member(alloc, out, "{\"id\":", rule.code)?;
     push_member(alloc, out, ",\"shortDescription\":{\"text\":", rule.text)?;
-    out.push_str("}}")
+    out.push_str("},\"helpUri\":\"")?;
+    out.push_str(RULES)?;
+    out.push_str(rule.code)?;
+    out.push_str("\"}")
 }
 
 // Adds whether all was looked at, and what wasn't.
