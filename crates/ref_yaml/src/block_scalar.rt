@@ -83,6 +83,9 @@ fn body_end(text: &str, body: usize, indent: usize) -> usize {
             break;
         }
         line = after_break(text, line_end(text, at));
+        if line >= text.len() {
+            break;
+        }
     }
     line
 }

@@ -52,13 +52,12 @@ pub(crate) fn after_white(text: &str, from: usize) -> usize {
 
 // Where the line ends, before its break.
 pub(crate) fn line_end(text: &str, from: usize) -> usize {
-    match bytes_from(text, from)
-        .iter()
-        .position(|byte| is_break(*byte))
-    {
-        Some(count) => from.saturating_add(count),
-        None => text.len(),
+    for (count, byte) in bytes_from(text, from).iter().enumerate() {
+        if *byte <= b'\r' && is_break(*byte) {
+            return from.saturating_add(count);
+        }
     }
+    text.len()
 }
 
 // Where the next line begins after a break, or the end of the text.

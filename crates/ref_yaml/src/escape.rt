@@ -1,8 +1,8 @@
 //! Escapes in double quotes (5.7).
-ghost use Rattle.std.specs.Prelude.{◌≡◌, ◌<◌, ◌≤◌, ◌^◌, ◌++◌, ℕ, List, Some, None, false, IfOk, OnOk, IfSome, IsTrue, option_map};
+ghost use Rattle.std.specs.Prelude.{◌≡◌, ◌<◌, ◌≤◌, ◌^◌, ◌++◌, ℕ, List, Some, None, false, All, IfOk, OnOk, IfSome, IsTrue, drop, length, option_map, take};
 ghost use Rattle.std.specs.Char.{encode_utf8};
 ghost use Rattle.ref_yaml.specs.Escapes.{short_escape, digits_of, hex_digit, is_first, is_second, character_of, number_text, by_letter, by_number, by_digit, by_byte, nothing_read, unescaped};
-ghost use Rattle.ref_yaml.specs.Passing.{Passes, reading_of};
+ghost use Rattle.ref_yaml.specs.Passing.{IsWithoutMark, Passes, reading_of};
 
 use std::alloc::{AllocError, Global};
 
@@ -227,8 +227,63 @@ pub(crate) fn unescaped(alloc: Global, source: &[u8]) -> Result<Option<Vec<u8>>,
         number: 0,
         first: 0,
     };
-    let mut is_outside = true;
     for byte in source {
+        let Some(next) = pass_byte(&mut out, &reading, *byte)? else {
+            return Ok(None);
+        };
+        reading = next;
+    }
+    if reading.after || 0 < reading.left || 0 < reading.first {
+        return Ok(None);
+    }
+    Ok(Some(out))
+}
+
+// How many bytes are before the first escape, or before a control character.
+fn outside_len(source: &[u8]) -> usize
+    ensures within { result ≤ length source.now }
+    ensures one_line { All (IsWithoutMark 10) (drop result source.now) → All (IsWithoutMark 10) source.now }
+    ensures same { option_map (λ s. take result source.now ++ s) (unescaped (drop result source.now))
+        ≡ unescaped source.now }
+{
+    for (at, byte) in source.iter().enumerate() {
+        if *byte < 14 || *byte == b'\\' {
+            return at;
+        }
+    }
+    source.len()
+}
+
+// The bytes after so many.
+fn after(source: &[u8], count: usize) -> &[u8]
+    ensures value { result.now ≡ drop count source.now }
+{
+    if count <= source.len() {
+        return &source[count..];
+    }
+    &[]
+}
+
+// A text of one line with escapes; nothing where one of them is wrong, or a control character is in it.
+pub(crate) fn unescaped_line(alloc: Global, source: &[u8]) -> Result<Option<Vec<u8>>, AllocError>
+    ensures value { IfOk result (λ o. IfSome o
+        (λ v. All (IsWithoutMark 10) source.now × (unescaped source.now ≡ Some v.items))) }
+{
+    let begin = outside_len(source);
+    let mut out = Vec::with_capacity(alloc, source.len())?;
+    out.extend_from_slice(&source[..begin])?;
+    let mut reading = Reading {
+        after: false,
+        left: 0,
+        number: 0,
+        first: 0,
+    };
+    let mut is_outside = true;
+    let rest = after(source, begin);
+    for byte in rest {
+        if *byte < 14 {
+            return Ok(None);
+        }
         if is_outside && *byte != b'\\' {
             out.push(*byte)?;
         } else {

@@ -8,7 +8,7 @@ ghost use Rattle.ref_yaml.specs.Scalars as spec;
 ghost use Rattle.ref_yaml.specs.Values.{IsNoText, IsTextStop};
 ghost use Rattle.ref_yaml.specs.declared.event.Kind.TheVariants.{Plain, SingleQuoted, DoubleQuoted, Literal, Folded};
 
-use crate::escape::unescaped;
+use crate::escape::{unescaped, unescaped_line};
 use crate::event::{Event, Kind};
 use crate::fault::{Fault, Stop};
 use crate::feeds::{with_feeds, with_quotes};
@@ -102,8 +102,8 @@ fn double_text(alloc: Global, source: &[u8]) -> Result<Option<Vec<u8>>, AllocErr
     ensures value { IfOk result
         (λ o. option_map (λ v. v.items) o ≡ spec.double_text source.now) }
 {
-    if is_one_line(source, b'\n') {
-        return unescaped(alloc, source);
+    if let Some(line) = unescaped_line(alloc, source)? {
+        return Ok(Some(line));
     }
     let joined = folded_lines(alloc, source, true)?;
     unescaped(alloc, joined.as_slice())

@@ -1,9 +1,8 @@
-use Rattle.std.proofs.Common.{refl, ◌∙◌}
-use Rattle.std.proofs.lemmas.Result.{IfOk-weaker}
+use Rattle.std.proofs.Common.{ap, sym, ◌∙◌}
 use Rattle.ref_yaml.proofs.OneLine.{double_line}
 use Rattle.ref_yaml.proofs.text.double_text.Goals as goal
 
-pub returns-then-is_one_line : goal.returns-then-is_one_line
-returns-then-is_one_line c = record {
-  value = IfOk-weaker c.unescaped.result _ _ (λ o same. same ∙ double_line c.args.source.now (c.if-is_one_line.ensures.value.0 refl)) c.unescaped.ensures.value;
-}
+pub returns-in-Some : goal.returns-in-Some
+returns-in-Some c =
+    let is = rw c.in-Some.is at c.in_ok-line.ensures.value in
+    record { value = sym is.1 ∙ double_line c.args.source.now is.0 }
