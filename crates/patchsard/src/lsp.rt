@@ -5,17 +5,18 @@ use ref_command_line::{Configured, Stop, find_configuration, find_configuration_
 use ref_files::Maps;
 use ref_levels::{Levels, least_of};
 use ref_lsp::{Desk, Ending, LeftOut, Rules, Session, Settings, serve};
+use ref_protocol::wire::Wire;
 use ref_streams::{Input, Output, Sink, Source};
 use std::alloc::{AllocError, Global};
 
 /// Serves an editor on standard input and output. The status is 0 after a `shutdown`, and 1 without one.
 pub fn serve_editor(rt: &HostRuntime, given: &ArgMatches<'_>) -> Result<u8, Stop> {
-    let mut source = Input::new(rt.stdin());
-    let mut sink = Output::new(rt.stdout());
-    let mut session = Session::new(rt.alloc())?;
+    let (source, sink) = (Input::new(rt.stdin()), Output::new(rt.stdout()));
+    let mut wire = Wire::new(rt.alloc(), source, sink)?;
+    let mut session = Session::new(rt.alloc());
     let mut configured = find_configuration(rt, given)?;
     for _ in 0..u64::MAX {
-        match served(rt, given, &configured, &mut session, &mut source, &mut sink)? {
+        match served(rt, given, &configured, &mut session, &mut wire)? {
             Ending::Configure => {
                 if let Some(other) = configured_anew(rt, given, &session)? {
                     configured = other;
@@ -28,13 +29,12 @@ pub fn serve_editor(rt: &HostRuntime, given: &ArgMatches<'_>) -> Result<u8, Stop
 }
 
 // Serves by a configuration.
-fn served<R: Source, W: Sink>(
+fn served<R: Source + Drop, W: Sink + Drop>(
     rt: &HostRuntime,
     given: &ArgMatches<'_>,
     configured: &Configured,
     session: &mut Session,
-    source: &mut R,
-    sink: &mut W,
+    wire: &mut Wire<R, W>,
 ) -> Result<Ending, Stop> {
     let maps = maps_of(rt, given, configured)?;
     let rules = Rules {
@@ -42,7 +42,7 @@ fn served<R: Source, W: Sink>(
         least: least_of(given, configured),
     };
     let mut desk = Desk::new(rt, settings_of(rt, given, configured)?, maps);
-    Ok(serve(&mut desk, rules, session, source, sink))
+    Ok(serve(&mut desk, rules, session, wire))
 }
 
 // The folders from which documents are read.

@@ -1,4 +1,6 @@
 //! The loop that reads frames and answers.
+ghost use Rattle.ref_protocol.specs.Wires.{HasAtMostOne};
+
 use crate::actions::actions;
 use crate::asked::asked_document;
 use crate::completion::completion;
@@ -13,11 +15,12 @@ use crate::shown::{Rules, Shown, Told};
 use crate::symbols::symbols;
 use crate::workspace_symbols::workspace_symbols;
 use ref_error::Error;
-use ref_protocol::call::{Kind, id_text, kind_of, message_of};
-use ref_protocol::feed::{Feed, More, Next};
+use ref_protocol::call::{Kind, kind_of};
+use ref_protocol::feed::More;
 use ref_protocol::methods::{Due, Method, Phase, due_for};
 use ref_protocol::refusal::Refusal;
-use ref_protocol::sending::{Unsent, answer, send};
+use ref_protocol::sending::Unsent;
+use ref_protocol::wire::{Heard, Wire};
 use ref_streams::{Sink, Source};
 use ref_workspace::View;
 use ref_workspace::world::world_of;
@@ -59,8 +62,6 @@ impl From<Unsent> for Ending {
 // A call in its time.
 #[derive(Drop)]
 struct Call {
-    // The text of its id, where it is a request.
-    id: Option<String>,
     method: Method,
     message: Value,
 }
@@ -80,19 +81,20 @@ enum Event {
 
 /// Reads frames and answers, to the end, or until the configuration is to be read again. Frames that were read together are taken in before
 /// the documents are judged.
-pub fn serve<R: Source, W: Sink>(
+pub fn serve<R: Source + Drop, W: Sink + Drop>(
     desk: &mut Desk<'_>,
     rules: Rules,
     session: &mut Session,
-    source: &mut R,
-    sink: &mut W,
-) -> Ending {
+    wire: &mut Wire<R, W>,
+) -> Ending
+    ensures at_most_one { HasAtMostOne wire.new }
+{
     let mut shown = Shown {
         told: Told::new(desk.alloc()),
         rules,
     };
     session.exchange(desk, &mut shown.told);
-    let outcome = served(desk, &mut shown, &mut session.feed, source, sink);
+    let outcome = served(desk, &mut shown, wire);
     session.exchange(desk, &mut shown.told);
     match outcome {
         Ok(ending) => ending,
@@ -100,25 +102,23 @@ pub fn serve<R: Source, W: Sink>(
     }
 }
 
-fn served<R: Source, W: Sink>(
+fn served<R: Source + Drop, W: Sink + Drop>(
     desk: &mut Desk<'_>,
     shown: &mut Shown,
-    feed: &mut Feed,
-    source: &mut R,
-    sink: &mut W,
+    wire: &mut Wire<R, W>,
 ) -> Result<Ending, Ending> {
     let mut event = Event::Settles;
     for _ in 0..u64::MAX {
         event = match event {
             Event::Ends(ending) => return Ok(ending),
             Event::Moves(call) => {
-                moved(desk, &mut shown.told, sink, call)?;
-                after_move(desk, shown, feed, source, sink)?
+                moved(desk, &mut shown.told, wire, call)?;
+                after_move(desk, shown, wire)?
             }
-            Event::Asks(call) => asked(desk, shown, feed, source, sink, call)?,
+            Event::Asks(call) => asked(desk, shown, wire, call)?,
             Event::Settles => {
                 desk.settle()?;
-                turn(desk, None, shown, feed, source, sink)?
+                turn(desk, None, shown, wire)?
             }
         };
     }
@@ -126,44 +126,38 @@ fn served<R: Source, W: Sink>(
 }
 
 // Goes on after a change.
-fn after_move<R: Source, W: Sink>(
+fn after_move<R: Source + Drop, W: Sink + Drop>(
     desk: &Desk<'_>,
     shown: &mut Shown,
-    feed: &mut Feed,
-    source: &mut R,
-    sink: &mut W,
+    wire: &mut Wire<R, W>,
 ) -> Result<Event, Ending> {
     if desk.is_reset {
         return Ok(Event::Ends(Ending::Configure));
     }
-    turn(desk, None, shown, feed, source, sink)
+    turn(desk, None, shown, wire)
 }
 
 // Answers a request, which may need the registry of the documents, and goes on with that until something changes.
-fn asked<R: Source, W: Sink>(
+fn asked<R: Source + Drop, W: Sink + Drop>(
     desk: &mut Desk<'_>,
     shown: &mut Shown,
-    feed: &mut Feed,
-    source: &mut R,
-    sink: &mut W,
+    wire: &mut Wire<R, W>,
     call: Call,
 ) -> Result<Event, Ending> {
     desk.settle()?;
     if needs_view(call.method) {
-        viewing(desk, shown, feed, source, sink, call)
+        viewing(desk, shown, wire, call)
     } else {
-        judged(desk, shown, sink, call)?;
-        turn(desk, None, shown, feed, source, sink)
+        judged(desk, shown, wire, call)?;
+        turn(desk, None, shown, wire)
     }
 }
 
 // Makes the registry of the documents, answers a request by it, and goes on with it.
-fn viewing<R: Source, W: Sink>(
+fn viewing<R: Source + Drop, W: Sink + Drop>(
     desk: &Desk<'_>,
     shown: &mut Shown,
-    feed: &mut Feed,
-    source: &mut R,
-    sink: &mut W,
+    wire: &mut Wire<R, W>,
     call: Call,
 ) -> Result<Event, Ending> {
     let alloc = desk.alloc();
@@ -171,28 +165,26 @@ fn viewing<R: Source, W: Sink>(
     match world_of(alloc, &desk.workspace, trees.as_slice()) {
         Ok(world) => {
             let view = View::of(alloc, &desk.workspace, &world)?;
-            by_world(desk, &view, shown, feed, source, sink, call)
+            by_world(desk, &view, shown, wire, call)
         }
         Err(error) => {
             drop_error(error);
-            reply(alloc, sink, call, Err(Refusal::Memory))?;
-            turn(desk, None, shown, feed, source, sink)
+            wire.answer(alloc, Err(Refusal::Memory))?;
+            turn(desk, None, shown, wire)
         }
     }
 }
 
 // Answers a request by the registry of the documents, and goes on with it.
-fn by_world<R: Source, W: Sink>(
+fn by_world<R: Source + Drop, W: Sink + Drop>(
     desk: &Desk<'_>,
     view: &View<'_, '_>,
     shown: &mut Shown,
-    feed: &mut Feed,
-    source: &mut R,
-    sink: &mut W,
+    wire: &mut Wire<R, W>,
     call: Call,
 ) -> Result<Event, Ending> {
-    viewed(desk, view, sink, call)?;
-    turn(desk, Some(view), shown, feed, source, sink)
+    viewed(desk, view, wire, call)?;
+    turn(desk, Some(view), shown, wire)
 }
 
 fn drop_error(error: Error) {
@@ -200,25 +192,23 @@ fn drop_error(error: Error) {
 }
 
 // Answers what changes nothing, until something does or, where there is no registry, one is needed.
-fn turn<R: Source, W: Sink>(
+fn turn<R: Source + Drop, W: Sink + Drop>(
     desk: &Desk<'_>,
     view: Option<&View<'_, '_>>,
     shown: &mut Shown,
-    feed: &mut Feed,
-    source: &mut R,
-    sink: &mut W,
+    wire: &mut Wire<R, W>,
 ) -> Result<Event, Ending> {
     let alloc = desk.alloc();
     for _ in 0..u64::MAX {
-        match feed.next(alloc)? {
-            Next::Content(content) => {
-                if let Some(event) = taken(desk, view, shown, sink, content)? {
+        match wire.next(alloc)? {
+            Heard::Frame(message) => {
+                if let Some(event) = taken(desk, view, shown, wire, message)? {
                     return Ok(event);
                 }
             }
-            Next::Broken(why) => return Ok(Event::Ends(Ending::Broken(why))),
-            Next::Wait => {
-                if let Some(event) = waited(desk, shown, feed, source, sink)? {
+            Heard::Broken(why) => return Ok(Event::Ends(Ending::Broken(why))),
+            Heard::Wait => {
+                if let Some(event) = waited(desk, shown, wire)? {
                     return Ok(event);
                 }
             }
@@ -228,18 +218,16 @@ fn turn<R: Source, W: Sink>(
 }
 
 // Takes in what changed, judges the documents, and reads more.
-fn waited<R: Source, W: Sink>(
+fn waited<R: Source + Drop, W: Sink + Drop>(
     desk: &Desk<'_>,
     shown: &mut Shown,
-    feed: &mut Feed,
-    source: &mut R,
-    sink: &mut W,
+    wire: &mut Wire<R, W>,
 ) -> Result<Option<Event>, Ending> {
     if desk.is_moved || desk.is_stale {
         return Ok(Some(Event::Settles));
     }
-    shown.refresh(desk, sink)?;
-    match feed.fill(desk.alloc(), source)? {
+    shown.refresh(desk, wire)?;
+    match wire.fill(desk.alloc())? {
         More::Bytes => Ok(None),
         More::End => Ok(Some(Event::Ends(ended(shown.told.phase)))),
         More::Cut => Ok(Some(Event::Ends(Ending::Broken("the input ends in a frame")))),
@@ -252,52 +240,38 @@ fn ended(phase: Phase) -> Ending {
 }
 
 // Takes the content of a frame: answers it, or returns what is to be done with it.
-fn taken<W: Sink>(
+fn taken<R: Source + Drop, W: Sink + Drop>(
     desk: &Desk<'_>,
     view: Option<&View<'_, '_>>,
     shown: &mut Shown,
-    sink: &mut W,
-    content: Vec<u8>,
+    wire: &mut Wire<R, W>,
+    message: Option<Value>,
 ) -> Result<Option<Event>, Ending> {
     let alloc = desk.alloc();
-    let Some(message) = message_of(alloc, content.as_slice())? else {
-        answer(alloc, sink, "null", Err(Refusal::NoJson))?;
+    let Some(message) = message else {
+        wire.answer(alloc, Err(Refusal::NoJson))?;
         return Ok(None);
     };
-    drop(content);
-    let id = id_text(alloc, &message)?;
     match kind_of(&message) {
         Kind::Call(method) => {
-            let due = due_for(shown.told.phase, method, id.is_some());
+            let due = due_for(shown.told.phase, method, wire.is_request());
             match due {
                 Due::Pass => Ok(None),
                 Due::Refuse(refusal) => {
-                    answer(alloc, sink, shown_id(&id), Err(refusal))?;
+                    wire.answer(alloc, Err(refusal))?;
                     Ok(None)
                 }
                 Due::Do(method) => {
-                    let call = Call {
-                        id,
-                        method,
-                        message,
-                    };
-                    called(desk, view, shown, sink, call)
+                    let call = Call { method, message };
+                    called(desk, view, shown, wire, call)
                 }
             }
         }
         Kind::Answer => Ok(None),
         Kind::Other => {
-            answer(alloc, sink, shown_id(&id), Err(Refusal::NoRequest))?;
+            wire.answer(alloc, Err(Refusal::NoRequest))?;
             Ok(None)
         }
-    }
-}
-
-// The text of an id, or that of none.
-fn shown_id(id: &Option<String>) -> &str {
-    match id {
-        Some(id) => id.as_str(),
-        None => "null",
     }
 }
 
@@ -327,11 +301,11 @@ fn moves(method: Method) -> bool {
 }
 
 // Does what a call in its time says, or returns what is to be done with it.
-fn called<W: Sink>(
+fn called<R: Source + Drop, W: Sink + Drop>(
     desk: &Desk<'_>,
     view: Option<&View<'_, '_>>,
     shown: &mut Shown,
-    sink: &mut W,
+    wire: &mut Wire<R, W>,
     call: Call,
 ) -> Result<Option<Event>, Ending> {
     if moves(call.method) {
@@ -342,31 +316,31 @@ fn called<W: Sink>(
         Method::Shutdown => {
             shown.told.phase = Phase::ShutDown;
             let result = String::from_str(desk.alloc(), "null")?;
-            reply(desk.alloc(), sink, call, Ok(result))?;
+            wire.answer(desk.alloc(), Ok(result))?;
             Ok(None)
         }
-        _ => still(desk, view, shown, sink, call),
+        _ => still(desk, view, shown, wire, call),
     }
 }
 
 // Answers a request that changes nothing, or asks for what it needs.
-fn still<W: Sink>(
+fn still<R: Source + Drop, W: Sink + Drop>(
     desk: &Desk<'_>,
     view: Option<&View<'_, '_>>,
     shown: &mut Shown,
-    sink: &mut W,
+    wire: &mut Wire<R, W>,
     call: Call,
 ) -> Result<Option<Event>, Ending> {
     if desk.is_moved || desk.is_stale {
         return Ok(Some(Event::Asks(call)));
     }
     if !needs_view(call.method) {
-        judged(desk, shown, sink, call)?;
+        judged(desk, shown, wire, call)?;
         return Ok(None);
     }
     match view {
         Some(view) => {
-            viewed(desk, view, sink, call)?;
+            viewed(desk, view, wire, call)?;
             Ok(None)
         }
         None => Ok(Some(Event::Asks(call))),
@@ -374,14 +348,14 @@ fn still<W: Sink>(
 }
 
 // Answers a request that needs the registry.
-fn viewed<W: Sink>(
+fn viewed<R: Source + Drop, W: Sink + Drop>(
     desk: &Desk<'_>,
     view: &View<'_, '_>,
-    sink: &mut W,
+    wire: &mut Wire<R, W>,
     call: Call,
 ) -> Result<(), Unsent> {
     let outcome = by_view(desk, view, &call);
-    reply(desk.alloc(), sink, call, outcome)
+    wire.answer(desk.alloc(), outcome)
 }
 
 fn by_view(desk: &Desk<'_>, view: &View<'_, '_>, call: &Call) -> Result<String, Refusal> {
@@ -398,17 +372,17 @@ fn by_view(desk: &Desk<'_>, view: &View<'_, '_>, call: &Call) -> Result<String, 
 }
 
 // Answers a request that needs no registry.
-fn judged<W: Sink>(
+fn judged<R: Source + Drop, W: Sink + Drop>(
     desk: &Desk<'_>,
     shown: &mut Shown,
-    sink: &mut W,
+    wire: &mut Wire<R, W>,
     call: Call,
 ) -> Result<(), Unsent> {
     if matches!(call.method, Method::CodeAction | Method::Diagnostic) {
-        shown.refresh(desk, sink)?;
+        shown.refresh(desk, wire)?;
     }
     let outcome = by_texts(desk, &shown.told, &call);
-    reply(desk.alloc(), sink, call, outcome)
+    wire.answer(desk.alloc(), outcome)
 }
 
 fn by_texts(desk: &Desk<'_>, told: &Told, call: &Call) -> Result<String, Refusal> {
@@ -436,32 +410,18 @@ fn pulled(desk: &Desk<'_>, told: &Told, params: &Value) -> Result<String, Refusa
     Ok(out)
 }
 
-// Answers a call, where it is a request.
-fn reply<W: Sink>(
-    alloc: Global,
-    sink: &mut W,
-    call: Call,
-    outcome: Result<String, Refusal>,
-) -> Result<(), Unsent> {
-    let Call { id, .. } = call;
-    match id {
-        Some(id) => answer(alloc, sink, id.as_str(), outcome),
-        None => Ok(()),
-    }
-}
-
 // Does what a call says that changes something.
-fn moved<W: Sink>(
+fn moved<R: Source + Drop, W: Sink + Drop>(
     desk: &mut Desk<'_>,
     told: &mut Told,
-    sink: &mut W,
+    wire: &mut Wire<R, W>,
     call: Call,
 ) -> Result<(), Unsent> {
     match call.method {
-        Method::Initialize => begun(desk, told, sink, call),
+        Method::Initialize => begun(desk, told, wire, call),
         Method::Initialized => {
             if told.watches {
-                send(desk.alloc(), sink, WATCH)?;
+                wire.ask(desk.alloc(), WATCH)?;
             }
             Ok(())
         }
@@ -476,10 +436,10 @@ fn moved<W: Sink>(
 }
 
 // `initialize`.
-fn begun<W: Sink>(
+fn begun<R: Source + Drop, W: Sink + Drop>(
     desk: &mut Desk<'_>,
     told: &mut Told,
-    sink: &mut W,
+    wire: &mut Wire<R, W>,
     call: Call,
 ) -> Result<(), Unsent> {
     let outcome = match call.message.get("params") {
@@ -489,7 +449,7 @@ fn begun<W: Sink>(
         }
         None => Err(Refusal::NoParameters),
     };
-    reply(desk.alloc(), sink, call, outcome)
+    wire.answer(desk.alloc(), outcome)
 }
 
 // Takes in a notification.

@@ -2,14 +2,12 @@
 use crate::desk::{Desk, OpenText};
 use crate::shown::Told;
 use ref_protocol::encoding::Encoding;
-use ref_protocol::feed::Feed;
-use std::alloc::{AllocError, Global};
+use std::alloc::Global;
 use std::mem::swap;
 
-/// What of a server goes on when its configuration is read again: what the client said and was told, and what is read and not taken yet.
+/// What of a server goes on when its configuration is read again: what the client said and was told.
 #[derive(Drop)]
 pub struct Session {
-    pub(crate) feed: Feed,
     told: Told,
     encoding: Encoding,
     folders: Vec<String>,
@@ -18,14 +16,13 @@ pub struct Session {
 
 impl Session {
     /// One in which nothing was said.
-    pub fn new(alloc: Global) -> Result<Session, AllocError> {
-        Ok(Session {
-            feed: Feed::new(alloc)?,
+    pub fn new(alloc: Global) -> Session {
+        Session {
             told: Told::new(alloc),
             encoding: Encoding::Utf16,
             folders: Vec::new(alloc),
             open: Vec::new(alloc),
-        })
+        }
     }
 
     /// The path of the client's first folder, where it has one.

@@ -5,8 +5,9 @@ use ref_levels::{Levels, is_listed};
 use ref_messages::Level;
 use ref_protocol::methods::Phase;
 use ref_protocol::pieces::push_text;
-use ref_protocol::sending::{Unsent, note};
-use ref_streams::Sink;
+use ref_protocol::sending::Unsent;
+use ref_protocol::wire::Wire;
+use ref_streams::{Sink, Source};
 use std::alloc::{AllocError, Global};
 use std::collections::BTreeMap;
 
@@ -85,35 +86,35 @@ impl Told {
         }
     }
 
-    fn send_all<W: Sink>(
+    fn send_all<R: Source + Drop, W: Sink + Drop>(
         &self,
         alloc: Global,
-        sink: &mut W,
+        wire: &mut Wire<R, W>,
         lists: &BTreeMap<String, String>,
     ) -> Result<(), Unsent> {
-        self.send_gone(alloc, sink, lists)?;
+        self.send_gone(alloc, wire, lists)?;
         for (uri, list) in lists {
             let is_sent = match self.lists.get(uri.as_str()) {
                 Some(sent) => sent.as_str() == list.as_str(),
                 None => false,
             };
             if !is_sent {
-                send_list(alloc, sink, uri.as_str(), list.as_str())?;
+                send_list(alloc, wire, uri.as_str(), list.as_str())?;
             }
         }
         Ok(())
     }
 
     // Sends that documents have no diagnostics any more.
-    fn send_gone<W: Sink>(
+    fn send_gone<R: Source + Drop, W: Sink + Drop>(
         &self,
         alloc: Global,
-        sink: &mut W,
+        wire: &mut Wire<R, W>,
         lists: &BTreeMap<String, String>,
     ) -> Result<(), Unsent> {
         for (uri, _) in &self.lists {
             if lists.get(uri.as_str()).is_none() {
-                send_list(alloc, sink, uri.as_str(), "[")?;
+                send_list(alloc, wire, uri.as_str(), "[")?;
             }
         }
         Ok(())
@@ -122,13 +123,17 @@ impl Told {
 
 impl Shown {
     /// Judges the documents where that isn't done yet, and sends the lists that are others now.
-    pub fn refresh<W: Sink>(&mut self, desk: &Desk<'_>, sink: &mut W) -> Result<(), Unsent> {
+    pub fn refresh<R: Source + Drop, W: Sink + Drop>(
+        &mut self,
+        desk: &Desk<'_>,
+        wire: &mut Wire<R, W>,
+    ) -> Result<(), Unsent> {
         if self.told.is_fresh || self.told.phase != Phase::Running {
             return Ok(());
         }
         let Judged { lists, fixes } = judge(desk, &mut self.rules)?;
         if !self.told.pulls {
-            self.told.send_all(desk.alloc(), sink, &lists)?;
+            self.told.send_all(desk.alloc(), wire, &lists)?;
         }
         self.told.lists = lists;
         self.told.fixes = fixes;
@@ -137,9 +142,14 @@ impl Shown {
     }
 }
 
-fn send_list<W: Sink>(alloc: Global, sink: &mut W, uri: &str, list: &str) -> Result<(), Unsent> {
+fn send_list<R: Source + Drop, W: Sink + Drop>(
+    alloc: Global,
+    wire: &mut Wire<R, W>,
+    uri: &str,
+    list: &str,
+) -> Result<(), Unsent> {
     let params = params_of(alloc, uri, list)?;
-    note(alloc, sink, params.as_str())
+    wire.note(alloc, params.as_str())
 }
 
 // The parameters that say a list of diagnostics of a document. Its end is left out in the list.

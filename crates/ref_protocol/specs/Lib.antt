@@ -2,9 +2,11 @@ pub mod Calls
 pub mod Edits
 pub mod Feeding
 pub mod Frames
+pub mod Hearing
 pub mod Methods
 pub mod Positions
 pub mod Refusals
 pub mod Replies
 pub mod Rows
 pub mod Sending
+pub mod Wires

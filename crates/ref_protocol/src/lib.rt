@@ -17,3 +17,4 @@ pub mod pieces;
 pub mod refusal;
 pub mod replies;
 pub mod sending;
+pub mod wire;
