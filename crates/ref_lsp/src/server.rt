@@ -9,7 +9,7 @@ use crate::life::{WATCH, initialize};
 use crate::links::links;
 use crate::references::references;
 use crate::session::Session;
-use crate::shown::{Rules, Shown, Told};
+use crate::shown::{Kept, Rules, Shown, Told};
 use crate::symbols::symbols;
 use crate::workspace_symbols::workspace_symbols;
 use ref_error::Error;
@@ -20,7 +20,7 @@ use ref_protocol::refusal::Refusal;
 use ref_protocol::sending::{Unsent, answer, send};
 use ref_streams::{Sink, Source};
 use ref_workspace::View;
-use ref_workspace::world::world_of;
+use ref_workspace::world::world_among;
 use serde_json::Value;
 use std::alloc::{AllocError, Global};
 
@@ -90,6 +90,7 @@ pub fn serve<R: Source, W: Sink>(
     let mut shown = Shown {
         told: Told::new(desk.alloc()),
         rules,
+        kept: Kept::new(desk.alloc()),
     };
     session.exchange(desk, &mut shown.told);
     let outcome = served(desk, &mut shown, &mut session.feed, source, sink);
@@ -157,7 +158,36 @@ fn asked<R: Source, W: Sink>(
     }
 }
 
-// Makes the registry of the documents, answers a request by it, and goes on with it.
+// The registry of documents, and what is asked by it.
+#[derive(Drop)]
+struct Seen<'s, 'w, 'd> {
+    view: &'s View<'w, 'd>,
+    // The number of the document that it serves: nothing where it is all of them.
+    number: Option<usize>,
+}
+
+impl Seen<'_, '_, '_> {
+    // Whether it serves what is asked of the document with a number, or of all. Where the client's text has no value, what is asked for
+    // depends on the place.
+    fn serves(&self, desk: &Desk<'_>, asked: Option<usize>) -> bool {
+        match (self.number, asked) {
+            (None, _) => true,
+            (Some(number), Some(asked)) => number == asked && desk.fault_of(number).is_none(),
+            _ => false,
+        }
+    }
+}
+
+// The number of the document that a request is about, or one that no document has: nothing where it is about all.
+fn asked_of(desk: &Desk<'_>, call: &Call) -> Result<Option<usize>, AllocError> {
+    let uri = call.message.pointer("/params/textDocument/uri");
+    match (call.method, uri.and_then(Value::as_str)) {
+        (Method::References, _) | (_, None) => Ok(None),
+        (_, Some(uri)) => Ok(Some(desk.number_of(uri)?.unwrap_or(usize::MAX))),
+    }
+}
+
+// Makes the registry of the documents that a request may ask for, answers it by that, and goes on with it.
 fn viewing<R: Source, W: Sink>(
     desk: &Desk<'_>,
     shown: &mut Shown,
@@ -167,11 +197,21 @@ fn viewing<R: Source, W: Sink>(
     call: Call,
 ) -> Result<Event, Ending> {
     let alloc = desk.alloc();
-    let trees = desk.workspace.mended(alloc)?;
-    match world_of(alloc, &desk.workspace, trees.as_slice()) {
+    let asked = asked_of(desk, &call)?;
+    let there = match asked {
+        Some(number) => desk.looked_at(number, call.message.get("params"))?,
+        None => Vec::new(alloc),
+    };
+    let trees = desk.workspace.mended_among(alloc, there.as_slice())?;
+    match world_among(alloc, &desk.workspace, trees.as_slice(), there.as_slice()) {
         Ok(world) => {
             let view = View::of(alloc, &desk.workspace, &world)?;
-            by_world(desk, &view, shown, feed, source, sink, call)
+            let number = if there.is_empty() { None } else { asked };
+            let seen = Seen {
+                view: &view,
+                number,
+            };
+            by_world(desk, &seen, shown, feed, source, sink, call)
         }
         Err(error) => {
             drop_error(error);
@@ -184,15 +224,15 @@ fn viewing<R: Source, W: Sink>(
 // Answers a request by the registry of the documents, and goes on with it.
 fn by_world<R: Source, W: Sink>(
     desk: &Desk<'_>,
-    view: &View<'_, '_>,
+    seen: &Seen<'_, '_, '_>,
     shown: &mut Shown,
     feed: &mut Feed,
     source: &mut R,
     sink: &mut W,
     call: Call,
 ) -> Result<Event, Ending> {
-    viewed(desk, view, sink, call)?;
-    turn(desk, Some(view), shown, feed, source, sink)
+    viewed(desk, seen.view, sink, call)?;
+    turn(desk, Some(seen), shown, feed, source, sink)
 }
 
 fn drop_error(error: Error) {
@@ -202,7 +242,7 @@ fn drop_error(error: Error) {
 // Answers what changes nothing, until something does or, where there is no registry, one is needed.
 fn turn<R: Source, W: Sink>(
     desk: &Desk<'_>,
-    view: Option<&View<'_, '_>>,
+    seen: Option<&Seen<'_, '_, '_>>,
     shown: &mut Shown,
     feed: &mut Feed,
     source: &mut R,
@@ -212,7 +252,7 @@ fn turn<R: Source, W: Sink>(
     for _ in 0..u64::MAX {
         match feed.next(alloc)? {
             Next::Content(content) => {
-                if let Some(event) = taken(desk, view, shown, sink, content)? {
+                if let Some(event) = taken(desk, seen, shown, sink, content)? {
                     return Ok(event);
                 }
             }
@@ -254,7 +294,7 @@ fn ended(phase: Phase) -> Ending {
 // Takes the content of a frame: answers it, or returns what is to be done with it.
 fn taken<W: Sink>(
     desk: &Desk<'_>,
-    view: Option<&View<'_, '_>>,
+    seen: Option<&Seen<'_, '_, '_>>,
     shown: &mut Shown,
     sink: &mut W,
     content: Vec<u8>,
@@ -281,7 +321,7 @@ fn taken<W: Sink>(
                         method,
                         message,
                     };
-                    called(desk, view, shown, sink, call)
+                    called(desk, seen, shown, sink, call)
                 }
             }
         }
@@ -329,7 +369,7 @@ fn moves(method: Method) -> bool {
 // Does what a call in its time says, or returns what is to be done with it.
 fn called<W: Sink>(
     desk: &Desk<'_>,
-    view: Option<&View<'_, '_>>,
+    seen: Option<&Seen<'_, '_, '_>>,
     shown: &mut Shown,
     sink: &mut W,
     call: Call,
@@ -345,14 +385,14 @@ fn called<W: Sink>(
             reply(desk.alloc(), sink, call, Ok(result))?;
             Ok(None)
         }
-        _ => still(desk, view, shown, sink, call),
+        _ => still(desk, seen, shown, sink, call),
     }
 }
 
 // Answers a request that changes nothing, or asks for what it needs.
 fn still<W: Sink>(
     desk: &Desk<'_>,
-    view: Option<&View<'_, '_>>,
+    seen: Option<&Seen<'_, '_, '_>>,
     shown: &mut Shown,
     sink: &mut W,
     call: Call,
@@ -364,12 +404,13 @@ fn still<W: Sink>(
         judged(desk, shown, sink, call)?;
         return Ok(None);
     }
-    match view {
-        Some(view) => {
-            viewed(desk, view, sink, call)?;
+    let asked = asked_of(desk, &call)?;
+    match seen {
+        Some(seen) if seen.serves(desk, asked) => {
+            viewed(desk, seen.view, sink, call)?;
             Ok(None)
         }
-        None => Ok(Some(Event::Asks(call))),
+        _ => Ok(Some(Event::Asks(call))),
     }
 }
 
