@@ -261,15 +261,19 @@ impl Moved {
     }
 }
 
-// Whether a set has one of some texts.
+// Whether two sets have a text in common. As many look-ups as the smaller one has texts.
 fn has_any(set: &BTreeSet<String>, texts: &BTreeSet<String>) -> bool {
-    texts.iter().any(|text| set.contains(text.as_str()))
+    if set.len() < texts.len() {
+        set.iter().any(|text| texts.contains(text.as_str()))
+    } else {
+        texts.iter().any(|text| set.contains(text.as_str()))
+    }
 }
 
 // Whether a document may bear other URIs than before: it has or had something that may be an identifier, which counts at a place and nowhere else; or it came
 // to have a value, or has none any more.
 fn may_rename(old: &Summary, new: &Summary) -> bool {
-    old.bears.len() > 1 || new.bears.len() > 1 || old.has_value != new.has_value
+    old.has_identifier || new.has_identifier || old.has_value != new.has_value
 }
 
 fn add_all(

@@ -22,6 +22,8 @@ pub struct Summary {
     pub refers: BTreeSet<String>,
     /// Whether it has a value.
     pub has_value: bool,
+    /// Whether a text that may be an identifier is in it.
+    pub has_identifier: bool,
     /// Whether it is a description of an API.
     pub is_description: bool,
     /// Whether its draft may be guessed: its root names none that is known.
@@ -88,6 +90,7 @@ impl Walk {
             bears,
             refers: BTreeSet::new(alloc),
             has_value: false,
+            has_identifier: false,
             is_description: false,
             is_guessed: false,
             is_open: false,
@@ -144,6 +147,7 @@ impl Walk {
         let mut bases = outer;
         for key in ["$id", "id", "$self"] {
             if let Some(id) = members.get(key).and_then(Value::as_str) {
+                self.summary.has_identifier = true;
                 if !id.starts_with('#') {
                     bases = self.with_identifier(id, bases)?;
                 }
@@ -165,7 +169,7 @@ impl Walk {
                 .insert(String::from_str(self.alloc, uri.as_str())?)?;
         }
         for uri in around {
-            within.push(uri.clone()?)?;
+            push_new(&mut within, uri.clone()?)?;
         }
         let number = self.bases.len();
         self.bases.push(within)?;
@@ -218,13 +222,21 @@ fn bases_at(list: &[Vec<Rc<Uri>>], number: usize) -> &[Rc<Uri>] {
     }
 }
 
-// The URIs that a text means against bases, without fragments.
+// The URIs that a text means against bases, without fragments, each once.
 fn meant_by(alloc: Global, bases: &[Rc<Uri>], text: &str) -> Result<Vec<Rc<Uri>>, AllocError> {
     let mut uris = Vec::new(alloc);
     for base in bases {
         if let Some(uri) = if_meant(target_of(alloc, base, text))? {
-            uris.push(uri)?;
+            push_new(&mut uris, uri)?;
         }
     }
     Ok(uris)
+}
+
+// Adds a URI, unless it is in the list.
+fn push_new(uris: &mut Vec<Rc<Uri>>, uri: Rc<Uri>) -> Result<(), AllocError> {
+    if !uris.iter().any(|other| other.as_str() == uri.as_str()) {
+        uris.push(uri)?;
+    }
+    Ok(())
 }
