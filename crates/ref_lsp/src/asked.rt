@@ -64,7 +64,32 @@ pub fn asked_place(desk: &Desk<'_>, params: &Value) -> Result<Option<Asked>, Ref
     }))
 }
 
+/// What is written at the place that a request is about, as a whole and up to the place: nothing where it is about none.
+pub fn texts_at(desk: &Desk<'_>, params: &Value) -> Result<Vec<String>, AllocError> {
+    let alloc = desk.alloc();
+    let mut texts = Vec::new(alloc);
+    let Ok(Some(asked)) = asked_place(desk, params) else {
+        return Ok(texts);
+    };
+    if let Some(text) = asked.text(desk)? {
+        texts.push(text)?;
+    }
+    texts.push(String::from_str(alloc, asked.before(desk))?)?;
+    Ok(texts)
+}
+
 impl Asked {
+    /// What is written of the key or the value before the place, without the quote before it.
+    pub fn before<'d>(&self, desk: &'d Desk<'_>) -> &'d str {
+        let (_, text) = desk.text_of(self.number);
+        let start = match &self.part {
+            Some(part) => part.start,
+            None => self.offset,
+        };
+        let before = text.get(start..self.offset).unwrap_or("");
+        before.trim_start_matches('"').trim_start_matches('\'')
+    }
+
     // The key of the value.
     fn key(&self) -> Option<&str> {
         match self.part.as_ref()?.path.last()? {

@@ -54,8 +54,7 @@ fn listed(desk: &Desk<'_>, view: &View<'_, '_>, asked: &Asked) -> Result<String,
         None => (asked.offset, asked.offset),
     };
     let token = text.get(start..end).unwrap_or("");
-    let before = text.get(start..asked.offset).unwrap_or("");
-    let before = before.trim_start_matches('"').trim_start_matches('\'');
+    let before = asked.before(desk);
     let mut items = Items {
         desk,
         out: String::from_str(alloc, "[")?,

@@ -1,4 +1,5 @@
 //! The documents below the client's folders, with those texts that it has open.
+use crate::summaries::Summaries;
 use ref_command_line::say_failures;
 use ref_draft::Draft;
 use ref_files::{
@@ -85,6 +86,8 @@ pub struct Desk<'r> {
     pub(crate) open: Vec<OpenText>,
     /// The documents.
     pub(crate) workspace: Workspace,
+    /// What they have to do with one another.
+    pub(crate) summaries: Summaries,
     // The absolute paths without links of those that were read, by their numbers.
     real: Vec<String>,
     // Files of YAML that say at their roots neither what they are, nor is one referred to.
@@ -109,6 +112,7 @@ impl<'r> Desk<'r> {
             folders: Vec::new(rt.alloc()),
             open: Vec::new(rt.alloc()),
             workspace,
+            summaries: Summaries::new(rt.alloc()),
             real: Vec::new(rt.alloc()),
             passed: Vec::new(rt.alloc()),
             is_stale: true,
@@ -125,6 +129,7 @@ impl<'r> Desk<'r> {
     // Reads all files again, and puts the open texts over them.
     pub(crate) fn reopen(&mut self) -> Result<(), AllocError> {
         self.is_moved = true;
+        self.summaries.note_all();
         self.workspace = Workspace::new(self.alloc(), self.settings.draft);
         self.real.clear();
         self.passed.clear();
@@ -221,6 +226,7 @@ impl<'r> Desk<'r> {
 
     // Opens a file as a document, and returns its number: one that is asked about comes after those that are, and another after all.
     pub(crate) fn enter(&mut self, file: ReadFile) -> Result<usize, AllocError> {
+        self.summaries.note_all();
         let ReadFile { file, uri, text } = file;
         let File {
             shown,
@@ -245,6 +251,7 @@ impl<'r> Desk<'r> {
 
     // Opens a document that is asked about, of the file at a path.
     fn enter_own(&mut self, path: String, document: Document) -> Result<usize, AllocError> {
+        self.summaries.note_all();
         let number = self.workspace.asked();
         self.real.insert(number.min(self.real.len()), path)?;
         for open in &mut self.open {
@@ -408,6 +415,7 @@ impl<'r> Desk<'r> {
     /// Puts an open text in place of that of the document with a number. One that has no value is kept aside where the document has one.
     pub(crate) fn put(&mut self, index: usize, number: usize) -> Result<(), AllocError> {
         self.is_moved = true;
+        self.summaries.note(number)?;
         let alloc = self.alloc();
         let Some(open) = self.open.get(index) else {
             return Ok(());

@@ -2,6 +2,7 @@
 use crate::desk::{Desk, OpenText};
 use crate::shown::Rules;
 use ref_files::{Fault, Format};
+use ref_findings::Problem;
 use ref_fixes::{Replacement, mended};
 use ref_messages::{Level, Message, Other};
 use ref_outline::spans::{offset_of, token_end};
@@ -28,35 +29,94 @@ pub struct Fix {
     pub diagnostic: String,
 }
 
-/// What is wrong with the documents.
+/// Which documents are judged, and which are looked at for that, by flags: one without a flag is.
+#[derive(Drop)]
+pub struct Bounds {
+    /// Those that are judged.
+    pub judged: Vec<bool>,
+    /// Those that are looked at.
+    pub there: Vec<bool>,
+    /// Whether references lead to places that no keyword leads to in other documents.
+    pub is_led: bool,
+    /// Whether the report on them has to be plain for that; else it has not to be.
+    pub is_plain: bool,
+}
+
+impl Bounds {
+    /// All.
+    pub fn all(alloc: Global) -> Bounds {
+        Bounds {
+            judged: Vec::new(alloc),
+            there: Vec::new(alloc),
+            is_led: false,
+            is_plain: false,
+        }
+    }
+
+    /// Whether the document with a number is judged.
+    pub fn has(&self, number: usize) -> bool {
+        self.judged.get(number).copied().unwrap_or(true)
+    }
+}
+
+/// What is to be known of the judgement on a document when others are judged anew.
+#[derive(Drop)]
+pub struct Note {
+    /// The URI that its list of diagnostics is under, where it has one.
+    pub uri: Option<String>,
+    /// Whether it refers to a document that isn't there.
+    pub is_wanting: bool,
+    /// How many of its findings something was looked for that may be meant.
+    pub searches: usize,
+}
+
+/// What is wrong with the documents that were judged.
 #[derive(Drop)]
 pub struct Judged {
     /// The lists of diagnostics in JSON, without the end of the list, by the URIs of the documents that have some.
     pub lists: BTreeMap<String, String>,
     /// The changes that mend something.
     pub fixes: Vec<Fix>,
+    /// By the numbers of the documents, what is to be known of each that was judged.
+    pub notes: Vec<Note>,
+    /// Whether the report on those that were looked at is plain.
+    pub is_plain: bool,
 }
 
-/// What is wrong with the documents of a desk.
-pub fn judge(desk: &Desk<'_>, rules: &mut Rules) -> Result<Judged, AllocError> {
+/// What is wrong with documents of a desk.
+pub fn judge(desk: &Desk<'_>, rules: &mut Rules, bounds: &Bounds) -> Result<Judged, AllocError> {
     let alloc = desk.alloc();
-    let mut judged = Judged {
-        lists: BTreeMap::new(alloc),
-        fixes: Vec::new(alloc),
-    };
-    let report = desk.workspace.full_report(alloc)?;
-    let findings = report.findings.as_slice();
-    let has_unchecked = rules.levels.has("unchecked-reference");
-    let mut silences = Silences::of(alloc, &desk.workspace)?;
-    let mut describer = Describer::new(alloc, &desk.workspace, findings, has_unchecked)?;
-    for place in 0..describer.len() {
-        judged.add_at(desk, rules, &mut silences, &mut describer, place)?;
-    }
-    drop(describer);
+    let there = bounds.there.as_slice();
+    let report = desk.workspace.report_among(alloc, there, bounds.is_led)?;
+    let is_plain = report.is_plain;
+    let findings = within(alloc, bounds, report.findings)?;
+    let mut judged = Judged::new(desk, is_plain)?;
+    judged.note_all(findings.as_slice());
+    judged.add_all(desk, rules, bounds, findings.as_slice())?;
     for open in &desk.open {
-        judged.add_open(desk, rules, open)?;
+        judged.add_open(desk, rules, bounds, open)?;
     }
     Ok(judged)
+}
+
+// Those findings that are in documents that are judged.
+fn within<'d>(
+    alloc: Global,
+    bounds: &Bounds,
+    findings: Vec<Finding<'d>>,
+) -> Result<Vec<Finding<'d>>, AllocError> {
+    let mut list = Vec::new(alloc);
+    for finding in findings {
+        if bounds.has(finding.source) {
+            push_finding(&mut list, finding)?;
+        }
+    }
+    Ok(list)
+}
+
+fn push_finding<'d>(list: &mut Vec<Finding<'d>>, finding: Finding<'d>) -> Result<(), AllocError> {
+    list.push(finding)?;
+    Ok(())
 }
 
 // The level of a finding with a message on it: nothing where it isn't shown.
@@ -76,6 +136,68 @@ fn level_of(
 }
 
 impl Judged {
+    // Nothing yet.
+    fn new(desk: &Desk<'_>, is_plain: bool) -> Result<Judged, AllocError> {
+        let alloc = desk.alloc();
+        let mut notes = Vec::with_capacity(alloc, desk.workspace.len())?;
+        for _ in 0..desk.workspace.len() {
+            notes.push(Note {
+                uri: None,
+                is_wanting: false,
+                searches: 0,
+            })?;
+        }
+        Ok(Judged {
+            lists: BTreeMap::new(alloc),
+            fixes: Vec::new(alloc),
+            notes,
+            is_plain,
+        })
+    }
+
+    // Notes what is to be known of findings.
+    fn note_all(&mut self, findings: &[Finding<'_>]) {
+        for finding in findings {
+            if let Some(note) = self.notes.get_mut(finding.source) {
+                match finding.problem.plain() {
+                    Some(Problem::MissingDocument { .. }) => {
+                        note.is_wanting = true;
+                        note.searches = note.searches.saturating_add(1);
+                    }
+                    Some(Problem::LeadsNowhere { .. } | Problem::UnknownDialect { .. }) => {
+                        note.searches = note.searches.saturating_add(1);
+                    }
+                    _ => {}
+                }
+            }
+        }
+    }
+
+    // Adds what is found, but for what isn't shown, or is in a text that has been left.
+    fn add_all(
+        &mut self,
+        desk: &Desk<'_>,
+        rules: &mut Rules,
+        bounds: &Bounds,
+        findings: &[Finding<'_>],
+    ) -> Result<(), AllocError> {
+        let alloc = desk.alloc();
+        let has_unchecked = rules.levels.has("unchecked-reference");
+        let there = bounds.there.as_slice();
+        let mut silences = Silences::of(alloc, &desk.workspace)?;
+        let mut describer = Describer::among(
+            alloc,
+            &desk.workspace,
+            findings,
+            has_unchecked,
+            there,
+        )?;
+        for place in 0..describer.len() {
+            self.add_at(desk, rules, &mut silences, &mut describer, place)?;
+        }
+        Ok(())
+    }
+
     // Adds what is found at a place of the list, unless it isn't shown, or is in a text that has been left.
     fn add_at(
         &mut self,
@@ -112,11 +234,15 @@ impl Judged {
         &mut self,
         desk: &Desk<'_>,
         rules: &mut Rules,
+        bounds: &Bounds,
         open: &OpenText,
     ) -> Result<(), AllocError> {
         let (Some(number), Some(fault)) = (open.number, &open.fault) else {
             return Ok(());
         };
+        if !bounds.has(number) {
+            return Ok(());
+        }
         let code = match open.format {
             Format::Json => "not-json",
             Format::Yaml => "not-yaml",
@@ -150,7 +276,7 @@ impl Judged {
             let diagnostic = out.clone()?;
             self.add_fix(desk, uri.clone()?, text, part, message, diagnostic)?;
         }
-        self.push(alloc, uri, out.as_str())
+        self.push(alloc, finding.source, uri, out.as_str())
     }
 
     fn add_fix(
@@ -203,11 +329,22 @@ impl Judged {
         )?;
         out.push('}')?;
         let uri = desk.client_uri(number)?;
-        self.push(alloc, uri, out.as_str())
+        self.push(alloc, number, uri, out.as_str())
     }
 
-    // Adds a diagnostic to the list of a document.
-    fn push(&mut self, alloc: Global, uri: String, diagnostic: &str) -> Result<(), AllocError> {
+    // Adds a diagnostic to the list of the document with a number.
+    fn push(
+        &mut self,
+        alloc: Global,
+        number: usize,
+        uri: String,
+        diagnostic: &str,
+    ) -> Result<(), AllocError> {
+        if let Some(note) = self.notes.get_mut(number) {
+            if note.uri.is_none() {
+                note.uri = Some(uri.clone()?);
+            }
+        }
         if let Some(list) = self.lists.get_mut(uri.as_str()) {
             push_comma(list)?;
             return list.push_str(diagnostic);

@@ -18,6 +18,7 @@ mod server;
 mod session;
 mod settle;
 mod shown;
+mod summaries;
 mod symbols;
 mod texts;
 mod workspace_symbols;

@@ -11,7 +11,7 @@ use crate::life::{WATCH, initialize};
 use crate::links::links;
 use crate::references::references;
 use crate::session::Session;
-use crate::shown::{Rules, Shown, Told};
+use crate::shown::{Kept, Rules, Shown, Told};
 use crate::symbols::symbols;
 use crate::workspace_symbols::workspace_symbols;
 use ref_error::Error;
@@ -23,7 +23,7 @@ use ref_protocol::sending::Unsent;
 use ref_protocol::wire::{Heard, Wire};
 use ref_streams::{Sink, Source};
 use ref_workspace::View;
-use ref_workspace::world::world_of;
+use ref_workspace::world::world_among;
 use serde_json::Value;
 use std::alloc::{AllocError, Global};
 
@@ -92,6 +92,7 @@ pub fn serve<R: Source + Drop, W: Sink + Drop>(
     let mut shown = Shown {
         told: Told::new(desk.alloc()),
         rules,
+        kept: Kept::new(desk.alloc()),
     };
     session.exchange(desk, &mut shown.told);
     let outcome = served(desk, &mut shown, wire);
@@ -153,7 +154,36 @@ fn asked<R: Source + Drop, W: Sink + Drop>(
     }
 }
 
-// Makes the registry of the documents, answers a request by it, and goes on with it.
+// The registry of documents, and what is asked by it.
+#[derive(Drop)]
+struct Seen<'s, 'w, 'd> {
+    view: &'s View<'w, 'd>,
+    // The number of the document that it serves: nothing where it is all of them.
+    number: Option<usize>,
+}
+
+impl Seen<'_, '_, '_> {
+    // Whether it serves what is asked of the document with a number, or of all. Where the client's text has no value, what is asked for
+    // depends on the place.
+    fn serves(&self, desk: &Desk<'_>, asked: Option<usize>) -> bool {
+        match (self.number, asked) {
+            (None, _) => true,
+            (Some(number), Some(asked)) => number == asked && desk.fault_of(number).is_none(),
+            _ => false,
+        }
+    }
+}
+
+// The number of the document that a request is about, or one that no document has: nothing where it is about all.
+fn asked_of(desk: &Desk<'_>, call: &Call) -> Result<Option<usize>, AllocError> {
+    let uri = call.message.pointer("/params/textDocument/uri");
+    match (call.method, uri.and_then(Value::as_str)) {
+        (Method::References, _) | (_, None) => Ok(None),
+        (_, Some(uri)) => Ok(Some(desk.number_of(uri)?.unwrap_or(usize::MAX))),
+    }
+}
+
+// Makes the registry of the documents that a request may ask for, answers it by that, and goes on with it.
 fn viewing<R: Source + Drop, W: Sink + Drop>(
     desk: &Desk<'_>,
     shown: &mut Shown,
@@ -161,11 +191,21 @@ fn viewing<R: Source + Drop, W: Sink + Drop>(
     call: Call,
 ) -> Result<Event, Ending> {
     let alloc = desk.alloc();
-    let trees = desk.workspace.mended(alloc)?;
-    match world_of(alloc, &desk.workspace, trees.as_slice()) {
+    let asked = asked_of(desk, &call)?;
+    let there = match asked {
+        Some(number) => desk.looked_at(number, call.message.get("params"))?,
+        None => Vec::new(alloc),
+    };
+    let trees = desk.workspace.mended_among(alloc, there.as_slice())?;
+    match world_among(alloc, &desk.workspace, trees.as_slice(), there.as_slice()) {
         Ok(world) => {
             let view = View::of(alloc, &desk.workspace, &world)?;
-            by_world(desk, &view, shown, wire, call)
+            let number = if there.is_empty() { None } else { asked };
+            let seen = Seen {
+                view: &view,
+                number,
+            };
+            by_world(desk, &seen, shown, wire, call)
         }
         Err(error) => {
             drop_error(error);
@@ -178,13 +218,13 @@ fn viewing<R: Source + Drop, W: Sink + Drop>(
 // Answers a request by the registry of the documents, and goes on with it.
 fn by_world<R: Source + Drop, W: Sink + Drop>(
     desk: &Desk<'_>,
-    view: &View<'_, '_>,
+    seen: &Seen<'_, '_, '_>,
     shown: &mut Shown,
     wire: &mut Wire<R, W>,
     call: Call,
 ) -> Result<Event, Ending> {
-    viewed(desk, view, wire, call)?;
-    turn(desk, Some(view), shown, wire)
+    viewed(desk, seen.view, wire, call)?;
+    turn(desk, Some(seen), shown, wire)
 }
 
 fn drop_error(error: Error) {
@@ -194,7 +234,7 @@ fn drop_error(error: Error) {
 // Answers what changes nothing, until something does or, where there is no registry, one is needed.
 fn turn<R: Source + Drop, W: Sink + Drop>(
     desk: &Desk<'_>,
-    view: Option<&View<'_, '_>>,
+    seen: Option<&Seen<'_, '_, '_>>,
     shown: &mut Shown,
     wire: &mut Wire<R, W>,
 ) -> Result<Event, Ending> {
@@ -202,7 +242,7 @@ fn turn<R: Source + Drop, W: Sink + Drop>(
     for _ in 0..u64::MAX {
         match wire.next(alloc)? {
             Heard::Frame(message) => {
-                if let Some(event) = taken(desk, view, shown, wire, message)? {
+                if let Some(event) = taken(desk, seen, shown, wire, message)? {
                     return Ok(event);
                 }
             }
@@ -242,7 +282,7 @@ fn ended(phase: Phase) -> Ending {
 // Takes the content of a frame: answers it, or returns what is to be done with it.
 fn taken<R: Source + Drop, W: Sink + Drop>(
     desk: &Desk<'_>,
-    view: Option<&View<'_, '_>>,
+    seen: Option<&Seen<'_, '_, '_>>,
     shown: &mut Shown,
     wire: &mut Wire<R, W>,
     message: Option<Value>,
@@ -263,7 +303,7 @@ fn taken<R: Source + Drop, W: Sink + Drop>(
                 }
                 Due::Do(method) => {
                     let call = Call { method, message };
-                    called(desk, view, shown, wire, call)
+                    called(desk, seen, shown, wire, call)
                 }
             }
         }
@@ -303,7 +343,7 @@ fn moves(method: Method) -> bool {
 // Does what a call in its time says, or returns what is to be done with it.
 fn called<R: Source + Drop, W: Sink + Drop>(
     desk: &Desk<'_>,
-    view: Option<&View<'_, '_>>,
+    seen: Option<&Seen<'_, '_, '_>>,
     shown: &mut Shown,
     wire: &mut Wire<R, W>,
     call: Call,
@@ -319,14 +359,14 @@ fn called<R: Source + Drop, W: Sink + Drop>(
             wire.answer(desk.alloc(), Ok(result))?;
             Ok(None)
         }
-        _ => still(desk, view, shown, wire, call),
+        _ => still(desk, seen, shown, wire, call),
     }
 }
 
 // Answers a request that changes nothing, or asks for what it needs.
 fn still<R: Source + Drop, W: Sink + Drop>(
     desk: &Desk<'_>,
-    view: Option<&View<'_, '_>>,
+    seen: Option<&Seen<'_, '_, '_>>,
     shown: &mut Shown,
     wire: &mut Wire<R, W>,
     call: Call,
@@ -338,12 +378,13 @@ fn still<R: Source + Drop, W: Sink + Drop>(
         judged(desk, shown, wire, call)?;
         return Ok(None);
     }
-    match view {
-        Some(view) => {
-            viewed(desk, view, wire, call)?;
+    let asked = asked_of(desk, &call)?;
+    match seen {
+        Some(seen) if seen.serves(desk, asked) => {
+            viewed(desk, seen.view, wire, call)?;
             Ok(None)
         }
-        None => Ok(Some(Event::Asks(call))),
+        _ => Ok(Some(Event::Asks(call))),
     }
 }
 

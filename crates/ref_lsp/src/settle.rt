@@ -5,6 +5,7 @@ use ref_files::{BrokenFile, Format};
 use ref_findings::Problem;
 use ref_workspace::Document;
 use std::alloc::AllocError;
+use std::collections::BTreeSet;
 
 impl Desk<'_> {
     /// Takes in what came, went or changed.
@@ -15,6 +16,7 @@ impl Desk<'_> {
         if self.is_moved {
             self.retrieve()?;
             self.adopt()?;
+            self.sum_up()?;
         }
         self.is_stale = false;
         self.is_moved = false;
@@ -26,6 +28,7 @@ impl Desk<'_> {
         if self.maps.is_empty() {
             return Ok(());
         }
+        self.summaries.note_all();
         self.workspace.retrieve(self.rt.alloc(), &self.maps)?;
         say_failures(self.rt, &self.maps.take_failures());
         for number in self.workspace.opened()..self.workspace.documents().len() {
@@ -64,7 +67,7 @@ impl Desk<'_> {
     // Opens those files that were passed over and are referred to.
     fn adopt(&mut self) -> Result<(), AllocError> {
         for _ in 0..u64::MAX {
-            if self.passed.is_empty() {
+            if self.passed.is_empty() || !self.may_want()? {
                 break;
             }
             let wanted = self.wanted()?;
@@ -94,6 +97,17 @@ impl Desk<'_> {
             }
         }
         Ok(())
+    }
+
+    // Whether one of them may be referred to.
+    fn may_want(&mut self) -> Result<bool, AllocError> {
+        let alloc = self.alloc();
+        self.sum_up()?;
+        let mut uris = BTreeSet::new(alloc);
+        for passed in &self.passed {
+            uris.insert(String::from_str(alloc, passed.uri.as_str())?)?;
+        }
+        Ok(self.summaries.refer_to_any(&uris))
     }
 
     // The places of those that are referred to, the last first.

@@ -1,6 +1,6 @@
 //! What a client was told.
 use crate::desk::Desk;
-use crate::judged::{Fix, Judged, judge};
+use crate::judged::{Bounds, Fix, Judged, Note, judge};
 use ref_levels::{Levels, is_listed};
 use ref_messages::Level;
 use ref_protocol::methods::Phase;
@@ -8,8 +8,12 @@ use ref_protocol::pieces::push_text;
 use ref_protocol::sending::Unsent;
 use ref_protocol::wire::Wire;
 use ref_streams::{Sink, Source};
+use ref_workspace::Summary;
+use ref_workspace::near::{altered, around, connected, has_description_beyond};
 use std::alloc::{AllocError, Global};
 use std::collections::BTreeMap;
+use std::mem::swap;
+use std::rc::Rc;
 
 /// What a client was told, and what it can.
 #[derive(Drop)]
@@ -35,6 +39,115 @@ pub struct Shown {
     pub told: Told,
     /// The rules.
     pub rules: Rules,
+    /// What is kept of the last judgement.
+    pub kept: Kept,
+}
+
+/// What is kept of the last judgement, so that only what a change alters is judged after it.
+#[derive(Drop)]
+pub struct Kept {
+    // The round of the summaries that it was made by; nothing where there was none.
+    round: Option<usize>,
+    summaries: Vec<Rc<Summary>>,
+    // By the numbers of the documents.
+    notes: Vec<Note>,
+    is_plain: bool,
+}
+
+// How many searches for what may be meant the `lint` of all documents surely ends: each takes at most a fiftieth of what all may take.
+const MOST_SEARCHES: usize = 48;
+
+impl Kept {
+    /// Nothing.
+    pub fn new(alloc: Global) -> Kept {
+        Kept {
+            round: None,
+            summaries: Vec::new(alloc),
+            notes: Vec::new(alloc),
+            is_plain: false,
+        }
+    }
+
+    // Which documents are to be judged: nothing where all are.
+    fn bounds(&self, desk: &Desk<'_>) -> Result<Option<Bounds>, AllocError> {
+        let alloc = desk.alloc();
+        let is_known = self.round == Some(desk.summaries.round);
+        if !is_known || !desk.summaries.are_complete || !self.is_bounded(None) {
+            return Ok(None);
+        }
+        let mut wanting = Vec::with_capacity(alloc, self.notes.len())?;
+        for note in &self.notes {
+            wanting.push(note.is_wanting)?;
+        }
+        if self.is_plain {
+            self.plain_bounds(alloc, desk, wanting.as_slice())
+        } else {
+            self.led_bounds(alloc, desk, wanting.as_slice())
+        }
+    }
+
+    // The bounds where reports are plain.
+    fn plain_bounds(
+        &self,
+        alloc: Global,
+        desk: &Desk<'_>,
+        wanting: &[bool],
+    ) -> Result<Option<Bounds>, AllocError> {
+        let after = desk.summaries.list.as_slice();
+        let judged = altered(alloc, self.summaries.as_slice(), after, wanting)?;
+        let there = around(alloc, after, judged.as_slice())?;
+        Ok(Some(Bounds {
+            judged,
+            there,
+            is_led: false,
+            is_plain: true,
+        }))
+    }
+
+    // The bounds where they aren't.
+    fn led_bounds(
+        &self,
+        alloc: Global,
+        desk: &Desk<'_>,
+        wanting: &[bool],
+    ) -> Result<Option<Bounds>, AllocError> {
+        let after = desk.summaries.list.as_slice();
+        let Some(judged) = connected(alloc, self.summaries.as_slice(), after, wanting)? else {
+            return Ok(None);
+        };
+        let is_led = has_description_beyond(after, judged.as_slice());
+        let there = Vec::from_slice(alloc, judged.as_slice())?;
+        Ok(Some(Bounds {
+            judged,
+            there,
+            is_led,
+            is_plain: false,
+        }))
+    }
+
+    // Whether all searches end, with those of documents that were judged in place of those before.
+    fn is_bounded(&self, judged: Option<(&Bounds, &Judged)>) -> bool {
+        let mut searches: usize = 0;
+        for (number, note) in self.notes.iter().enumerate() {
+            let mut count = note.searches;
+            if let Some((bounds, judged)) = judged {
+                if bounds.has(number) {
+                    count = judged.notes.get(number).map_or(0, |note| note.searches);
+                }
+            }
+            searches = searches.saturating_add(count);
+        }
+        searches <= MOST_SEARCHES
+    }
+
+    // Keeps by which summaries documents were judged.
+    fn keep_summaries(&mut self, desk: &Desk<'_>) -> Result<(), AllocError> {
+        self.summaries.clear();
+        for summary in &desk.summaries.list {
+            self.summaries.push(summary.clone()?)?;
+        }
+        Ok(())
+    }
 }
 
 /// The levels of rules, and the least level that is shown.
@@ -86,6 +199,18 @@ impl Told {
         }
     }
 
+    fn add_fixes(&mut self, fixes: Vec<Fix>) -> Result<(), AllocError> {
+        for fix in fixes {
+            self.fixes.push(fix)?;
+        }
+        Ok(())
+    }
+
+    fn set_list(&mut self, uri: String, list: String) -> Result<(), AllocError> {
+        self.lists.insert(uri, list)?;
+        Ok(())
+    }
+
     fn send_all<R: Source + Drop, W: Sink + Drop>(
         &self,
         alloc: Global,
@@ -122,7 +247,8 @@ impl Told {
 }
 
 impl Shown {
-    /// Judges the documents where that isn't done yet, and sends the lists that are others now.
+    /// Judges the documents where that isn't done yet, those alone that what changed may alter the findings of, and sends the lists that are others
+    /// now.
     pub fn refresh<R: Source + Drop, W: Sink + Drop>(
         &mut self,
         desk: &Desk<'_>,
@@ -131,13 +257,126 @@ impl Shown {
         if self.told.is_fresh || self.told.phase != Phase::Running {
             return Ok(());
         }
-        let Judged { lists, fixes } = judge(desk, &mut self.rules)?;
-        if !self.told.pulls {
-            self.told.send_all(desk.alloc(), wire, &lists)?;
+        match self.kept.bounds(desk)? {
+            Some(bounds) => self.refresh_some(desk, wire, bounds),
+            None => self.refresh_all(desk, wire),
         }
+    }
+
+    fn refresh_all<R: Source + Drop, W: Sink + Drop>(
+        &mut self,
+        desk: &Desk<'_>,
+        wire: &mut Wire<R, W>,
+    ) -> Result<(), Unsent> {
+        let alloc = desk.alloc();
+        let bounds = Bounds::all(alloc);
+        let judged = judge(desk, &mut self.rules, &bounds)?;
+        if !self.told.pulls {
+            self.told.send_all(alloc, wire, &judged.lists)?;
+        }
+        let Judged {
+            lists,
+            fixes,
+            notes,
+            is_plain,
+        } = judged;
         self.told.lists = lists;
         self.told.fixes = fixes;
         self.told.is_fresh = true;
+        self.kept.notes = notes;
+        self.kept.is_plain = is_plain;
+        self.kept.round = Some(desk.summaries.round);
+        self.kept.keep_summaries(desk)?;
+        Ok(())
+    }
+
+    // Judges some documents; all, where the report on some isn't what one on all says of them.
+    fn refresh_some<R: Source + Drop, W: Sink + Drop>(
+        &mut self,
+        desk: &Desk<'_>,
+        wire: &mut Wire<R, W>,
+        bounds: Bounds,
+    ) -> Result<(), Unsent> {
+        let judged = judge(desk, &mut self.rules, &bounds)?;
+        if judged.is_plain != bounds.is_plain || !self.kept.is_bounded(Some((&bounds, &judged))) {
+            drop(judged);
+            return self.refresh_all(desk, wire);
+        }
+        self.take_some(desk, wire, &bounds, judged)
+    }
+
+    // Takes what is wrong with some documents in place of what was told of them.
+    fn take_some<R: Source + Drop, W: Sink + Drop>(
+        &mut self,
+        desk: &Desk<'_>,
+        wire: &mut Wire<R, W>,
+        bounds: &Bounds,
+        judged: Judged,
+    ) -> Result<(), Unsent> {
+        let Judged {
+            lists,
+            fixes,
+            notes,
+            ..
+        } = judged;
+        for (number, note) in notes.into_iter().enumerate() {
+            if bounds.has(number) {
+                self.take_note(desk, wire, number, note, &lists)?;
+            }
+        }
+        self.take_lists(desk.alloc(), wire, lists)?;
+        self.told.add_fixes(fixes)?;
+        self.kept.keep_summaries(desk)?;
+        self.told.is_fresh = true;
+        Ok(())
+    }
+
+    // Takes the note of a document in place of the one before, forgets what mended it, and sends that it has no diagnostics any more, where that is so.
+    fn take_note<R: Source + Drop, W: Sink + Drop>(
+        &mut self,
+        desk: &Desk<'_>,
+        wire: &mut Wire<R, W>,
+        number: usize,
+        note: Note,
+        lists: &BTreeMap<String, String>,
+    ) -> Result<(), Unsent> {
+        let Some(place) = self.kept.notes.get_mut(number) else {
+            return Ok(());
+        };
+        let mut old = note;
+        swap(place, &mut old);
+        let Some(uri) = old.uri else {
+            return Ok(());
+        };
+        self.told
+            .fixes
+            .retain(|fix| fix.uri.as_str() != uri.as_str());
+        if !lists.contains_key(uri.as_str()) {
+            self.told.lists.remove(uri.as_str());
+            if !self.told.pulls {
+                send_list(desk.alloc(), wire, uri.as_str(), "[")?;
+            }
+        }
+        Ok(())
+    }
+
+    // Sends the lists that are others now, and takes them.
+    fn take_lists<R: Source + Drop, W: Sink + Drop>(
+        &mut self,
+        alloc: Global,
+        wire: &mut Wire<R, W>,
+        lists: BTreeMap<String, String>,
+    ) -> Result<(), Unsent> {
+        for (uri, list) in lists {
+            let is_sent = match self.told.lists.get(uri.as_str()) {
+                Some(sent) => sent.as_str() == list.as_str(),
+                None => false,
+            };
+            if !is_sent && !self.told.pulls {
+                send_list(alloc, wire, uri.as_str(), list.as_str())?;
+            }
+            self.told.set_list(uri, list)?;
+        }
         Ok(())
     }
 }

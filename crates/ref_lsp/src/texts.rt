@@ -53,7 +53,7 @@ impl Desk<'_> {
         let Some(format) = format_of(path.as_str(), language) else {
             return Ok(());
         };
-        self.close(uri);
+        self.close(uri)?;
         let open = OpenText {
             uri: String::from_str(alloc, uri)?,
             path,
@@ -76,6 +76,7 @@ impl Desk<'_> {
         let number = self.find(open.path.as_str())?;
         if let Some(number) = number {
             if self.has_text(number, index) {
+                self.summaries.note(number)?;
                 if let Some(open) = self.open.get_mut(index) {
                     open.number = Some(number);
                 }
@@ -97,17 +98,22 @@ impl Desk<'_> {
     }
 
     // Forgets the open text with a URI, and returns its number.
-    fn close(&mut self, uri: &str) -> Option<usize> {
-        let place = self.open_at(uri)?;
+    fn close(&mut self, uri: &str) -> Result<Option<usize>, AllocError> {
+        let Some(place) = self.open_at(uri) else {
+            return Ok(None);
+        };
         if place >= self.open.len() {
-            return None;
+            return Ok(None);
         }
         let closed = self.open.remove(place);
+        if let Some(number) = closed.number {
+            self.summaries.note(number)?;
+        }
         // Its findings were those of the text that is let go.
         if closed.fault.is_some() {
             self.is_moved = true;
         }
-        closed.number
+        Ok(closed.number)
     }
 
     // Which of the open texts has a URI.
@@ -120,7 +126,7 @@ impl Desk<'_> {
         let Some(uri) = text_at(params, "/textDocument/uri") else {
             return Ok(());
         };
-        if let Some(number) = self.close(uri) {
+        if let Some(number) = self.close(uri)? {
             self.read_again(number)?;
         }
         Ok(())
@@ -138,6 +144,7 @@ impl Desk<'_> {
             Ok(text) => {
                 let text = ref_files::DocumentText::of_bytes(alloc, format, text.as_bytes())?;
                 self.workspace.replace(number, text);
+                self.summaries.note(number)?;
                 self.is_moved = true;
                 Ok(())
             }

@@ -30,6 +30,10 @@ pub struct Describer<'l, 'd> {
     // The file, the line, the column and the number of each that is listed.
     order: Vec<(usize, usize, usize, usize)>,
     spots: Spots<'d>,
+    // By the numbers of the documents, whether references of the findings may lead into one. One without a flag may be led into.
+    there: Vec<bool>,
+    // What pointers and anchors may mean in these documents, once something is to be suggested and these aren't all.
+    near: Option<Resources<'d>>,
     // What references may mean, once something is to be suggested.
     resources: Option<Resources<'d>>,
     suggester: Suggester,
@@ -51,9 +55,25 @@ impl<'l, 'd> Describer<'l, 'd> {
             list,
             order,
             spots,
+            there: Vec::new(alloc),
+            near: None,
             resources: None,
             suggester: Suggester::new(STEPS),
         })
+    }
+
+    /// The same where references of the findings lead into no other documents than those with a flag, by their numbers.
+    pub fn among(
+        alloc: Global,
+        workspace: &'d Workspace,
+        list: &'l [Finding<'d>],
+        is_verbose: bool,
+        there: &[bool],
+    ) -> Result<Describer<'l, 'd>, AllocError> {
+        let there = Vec::from_slice(alloc, there)?;
+        let mut describer = Describer::new(alloc, workspace, list, is_verbose)?;
+        describer.there = there;
+        Ok(describer)
     }
 
     /// How many findings are listed.
@@ -245,15 +265,31 @@ impl<'l, 'd> Describer<'l, 'd> {
     // Makes what references may mean, where it isn't made yet.
     fn prepare(&mut self) -> Result<(), AllocError> {
         if self.resources.is_none() {
-            self.resources = Some(Resources::of(self.alloc, self.workspace)?);
+            self.resources = Some(Resources::of(self.alloc, self.workspace, &[])?);
+        }
+        Ok(())
+    }
+
+    // Makes what pointers and anchors may mean, where it isn't made yet.
+    fn prepare_near(&mut self) -> Result<(), AllocError> {
+        if self.there.is_empty() {
+            return self.prepare();
+        }
+        if self.near.is_none() {
+            let there = self.there.as_slice();
+            self.near = Some(Resources::of(self.alloc, self.workspace, there)?);
         }
         Ok(())
     }
 
     fn suggestion_in(&mut self, uri: &Uri, error: &Error) -> Result<Option<Meant>, AllocError> {
-        self.prepare()?;
-        let Some(resources) = &self.resources else {
-            return Ok(None);
+        self.prepare_near()?;
+        let resources = match &self.near {
+            Some(resources) => resources,
+            None => match &self.resources {
+                Some(resources) => resources,
+                None => return Ok(None),
+            },
         };
         match resources.get(uri.as_str()) {
             Some(resource) => suggestion(self.alloc, &mut self.suggester, resource, error),

@@ -33,6 +33,10 @@ pub(crate) struct Described {
     pub is_described: Vec<bool>,
     /// How many of the documents that are asked about are descriptions.
     pub descriptions: usize,
+    /// Whether places are looked for that no keyword leads to, but references.
+    pub is_led: bool,
+    // By the numbers of the documents, whether one is looked at. One without a flag is.
+    there: Vec<bool>,
 }
 
 /// What is wrong with a reference in the document with a number, at a path.
@@ -91,28 +95,53 @@ pub(crate) struct Numbered<'d> {
     pub numbers: Vec<usize>,
 }
 
-/// Those of a workspace.
+/// Those of a workspace that are looked at.
 pub(crate) fn numbered_sources<'d>(
     alloc: Global,
     workspace: &'d Workspace,
+    described: &Described,
 ) -> Result<Numbered<'d>, AllocError> {
     let mut numbered = Numbered {
         sources: Vec::new(alloc),
         numbers: Vec::new(alloc),
     };
     for number in 0..workspace.len() {
-        if let (Some(uri), Some(value)) = (workspace.uri(number), workspace.value(number)) {
-            let uri = uri.clone()?;
-            numbered.sources.push(Source { uri, value })?;
-            numbered.numbers.push(number)?;
+        if described.has(number) {
+            numbered.add(workspace, number)?;
         }
     }
     Ok(numbered)
 }
 
+impl<'d> Numbered<'d> {
+    // Adds the document with a number, where it has a value.
+    fn add(&mut self, workspace: &'d Workspace, number: usize) -> Result<(), AllocError> {
+        if let (Some(uri), Some(value)) = (workspace.uri(number), workspace.value(number)) {
+            let uri = uri.clone()?;
+            self.sources.push(Source { uri, value })?;
+            self.numbers.push(number)?;
+        }
+        Ok(())
+    }
+}
+
+/// Whether the document with a number is among those that are looked at, by flags: one without a flag is.
+pub(crate) fn is_among(there: &[bool], number: usize) -> bool {
+    there.get(number).copied().unwrap_or(true)
+}
+
 impl Described {
     /// Those of a workspace, by their roots alone. Fails only if out of memory.
     pub fn of(alloc: Global, workspace: &Workspace) -> Result<Described, AllocError> {
+        Described::among(alloc, workspace, &[])
+    }
+
+    /// The same of those documents that are looked at, by flags: one without a flag is.
+    pub fn among(
+        alloc: Global,
+        workspace: &Workspace,
+        there: &[bool],
+    ) -> Result<Described, AllocError> {
         let is_described = vec![in alloc; false; workspace.len()]?;
         let placed = Placed::new(alloc, workspace.len())?;
         let mut described = Described {
@@ -121,9 +150,12 @@ impl Described {
             placed,
             is_described,
             descriptions: 0,
+            is_led: false,
+            there: Vec::from_slice(alloc, there)?,
         };
         for number in 0..workspace.len() {
-            if workspace.value(number).is_some_and(is_description) {
+            let is_there = described.has(number);
+            if is_there && workspace.value(number).is_some_and(is_description) {
                 described.note_description(number, workspace.asked());
             }
         }
@@ -137,6 +169,16 @@ impl Described {
         self.note(number);
     }
 
+    /// Whether the document with a number is looked at.
+    pub fn has(&self, number: usize) -> bool {
+        is_among(self.there.as_slice(), number)
+    }
+
+    /// Whether the document with a number is looked at and is a schema: neither a description nor a part.
+    pub fn is_plain_at(&self, number: usize) -> bool {
+        self.has(number) && !self.is_described_at(number)
+    }
+
     /// Whether the document with a number is a description or a part.
     pub fn is_described_at(&self, number: usize) -> bool {
         self.is_described.get(number).copied().unwrap_or(false)
@@ -144,7 +186,7 @@ impl Described {
 
     /// Of a document that is neither, notes whether its texts are looked for.
     pub fn look_at(&mut self, number: usize, is_looked: bool) {
-        if self.is_described_at(number) {
+        if !self.is_plain_at(number) {
             return;
         }
         if is_looked {
@@ -228,7 +270,7 @@ fn faults_of<'d>(
     workspace: &Workspace,
     described: &mut Described,
 ) -> Result<Vec<Fault<'d>>, AllocError> {
-    let numbered = numbered_sources(alloc, workspace)?;
+    let numbered = numbered_sources(alloc, workspace, &*described)?;
     faults_by(alloc, workspace, &numbered, described)
 }
 
@@ -426,7 +468,7 @@ impl Workspace {
         described: &mut Described,
         description: &mut Description<'d>,
     ) -> Result<(), AllocError> {
-        let numbered = numbered_sources(alloc, self)?;
+        let numbered = numbered_sources(alloc, self, &*described)?;
         self.describe_by(alloc, &numbered, described, description)
     }
 

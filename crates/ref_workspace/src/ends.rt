@@ -31,7 +31,7 @@ pub(crate) fn ends_of<'d>(
         is_open: false,
     };
     for (number, document) in workspace.asked_about().iter().enumerate() {
-        if !described.is_described_at(number) {
+        if described.is_plain_at(number) {
             if let Some(value) = document.value() {
                 ends.add_all(alloc, value)?;
             }
@@ -87,18 +87,30 @@ impl<'d> Ends<'d> {
         &self,
         alloc: Global,
         workspace: &Workspace,
+        described: &Described,
     ) -> Result<bool, AllocError> {
         if self.is_open {
             return Ok(true);
         }
         for number in 0..workspace.len() {
-            if let Some(value) = workspace.value(number) {
-                if !value.is_object() || self.has_other(alloc, value)? {
-                    return Ok(true);
-                }
+            if described.has(number) && self.may_be_in(alloc, workspace, number)? {
+                return Ok(true);
             }
         }
         Ok(false)
+    }
+
+    // Whether one may lead to what is no schema in the document with a number.
+    fn may_be_in(
+        &self,
+        alloc: Global,
+        workspace: &Workspace,
+        number: usize,
+    ) -> Result<bool, AllocError> {
+        match workspace.value(number) {
+            Some(value) => Ok(!value.is_object() || self.has_other(alloc, value)?),
+            None => Ok(false),
+        }
     }
 
     // Whether a value has a member, at any depth, with such a name that is no object.

@@ -18,6 +18,9 @@ pub struct Report<'d> {
     pub references: usize,
     /// How many of these are in places of schemas that no keyword leads to, but references.
     pub led: usize,
+    /// Whether no document is a description or a part of one, and keywords lead to each reference: then what is wrong with a document is
+    /// what is wrong with its own places.
+    pub is_plain: bool,
     /// How many of the documents that are asked about are descriptions.
     pub descriptions: usize,
     /// How many places the descriptions have: objects, and what references lead to.

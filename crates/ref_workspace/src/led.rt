@@ -25,11 +25,12 @@ pub(crate) fn add_led<'d>(
     list: &mut Vec<Finding<'d>>,
 ) -> Result<usize, AllocError> {
     let ends = ends_of(alloc, workspace, &*described)?;
-    let is_any = described.is_any() || ends.count != references;
+    let is_any = described.is_led || described.is_any() || ends.count != references;
+    described.is_led = is_any;
     for number in 0..workspace.asked() {
         described.look_at(number, is_any);
     }
-    if !is_any && !ends.may_be_no_schema(alloc, workspace)? {
+    if !is_any && !ends.may_be_no_schema(alloc, workspace, &*described)? {
         return Ok(0);
     }
     let Led {
@@ -82,7 +83,7 @@ fn led_of<'d>(
     described: &mut Described,
     is_any: bool,
 ) -> Result<Led<'d>, AllocError> {
-    let numbered = numbered_sources(alloc, workspace)?;
+    let numbered = numbered_sources(alloc, workspace, &*described)?;
     led_by(alloc, workspace, &numbered, described, is_any)
 }
 
@@ -127,7 +128,7 @@ fn schemas_among<'r>(
 ) -> Result<Schemas<'r>, AllocError> {
     let mut plain = Vec::new(alloc);
     for (number, source) in numbers.iter().enumerate() {
-        if !described.is_described_at(*source) {
+        if described.is_plain_at(*source) {
             push(&mut plain, number)?;
         }
     }
@@ -194,7 +195,7 @@ pub(crate) fn add_led_places<'d>(
     described: &Described,
     description: &mut Description<'d>,
 ) -> Result<(), AllocError> {
-    let numbered = numbered_sources(alloc, workspace)?;
+    let numbered = numbered_sources(alloc, workspace, described)?;
     add_places_by(alloc, workspace, &numbered, described, description)
 }
 

@@ -1,4 +1,5 @@
 //! The resources of documents: what the pointers and anchors of references may mean, for suggestions.
+use crate::described::is_among;
 use crate::documents::tails;
 use crate::suggestions::Best;
 use crate::workspace::Workspace;
@@ -85,16 +86,20 @@ struct Step<'d> {
 }
 
 impl<'d> Resources<'d> {
-    /// Those of the documents that were read. Each place of them is visited once.
-    pub fn of(alloc: Global, workspace: &'d Workspace) -> Result<Resources<'d>, AllocError> {
+    /// Those of the documents that were read and are looked at, by flags: one without a flag is. Each place of them is visited once.
+    pub fn of(
+        alloc: Global,
+        workspace: &'d Workspace,
+        there: &[bool],
+    ) -> Result<Resources<'d>, AllocError> {
         let mut resources = Resources {
             alloc,
             list: Vec::new(alloc),
             numbers: BTreeMap::new(alloc),
         };
         for number in 0..workspace.len() {
-            if let (Some(uri), Some(value)) = (workspace.uri(number), workspace.value(number)) {
-                resources.add_document(uri, value, workspace.draft())?;
+            if is_among(there, number) {
+                resources.add_at(workspace, number)?;
             }
         }
         Ok(resources)
@@ -147,6 +152,14 @@ impl<'d> Resources<'d> {
         self.numbers
             .insert(String::from_str(self.alloc, uri)?, number)?;
         Ok(())
+    }
+
+    // Adds those of the document with a number, where it has a value.
+    fn add_at(&mut self, workspace: &'d Workspace, number: usize) -> Result<(), AllocError> {
+        match (workspace.uri(number), workspace.value(number)) {
+            (Some(uri), Some(value)) => self.add_document(uri, value, workspace.draft()),
+            _ => Ok(()),
+        }
     }
 
     fn add_document(&mut self, uri: &Uri, root: &'d Value, draft: Draft) -> Result<(), AllocError> {

@@ -61,7 +61,7 @@ pub(crate) fn add_told<'d>(
     list: &mut Vec<Finding<'d>>,
 ) -> Result<(), AllocError> {
     for (number, document) in workspace.asked_about().iter().enumerate() {
-        if !described.is_described_at(number) {
+        if described.is_plain_at(number) {
             add_of(alloc, workspace.draft(), number, document, list)?;
         }
     }

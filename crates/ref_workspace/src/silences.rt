@@ -19,19 +19,19 @@ const BEGIN: &str = "patchsard: ignore ";
 pub struct Silences<'d> {
     alloc: Global,
     documents: &'d [Document],
-    // By the numbers of the documents, whether one may have such comments.
-    may: Vec<bool>,
+    // By the numbers of the documents, whether one may have such comments, where its text was looked at.
+    may: Vec<Option<bool>>,
     // Those that silenced something: the number of the document, and a pointer or a line.
     used: BTreeSet<(usize, String)>,
 }
 
 impl<'d> Silences<'d> {
-    /// Those of a workspace. It looks at each text once.
+    /// Those of a workspace. A text is looked at once, when something in it is asked for.
     pub fn of(alloc: Global, workspace: &'d Workspace) -> Result<Silences<'d>, AllocError> {
         let documents = workspace.documents();
         let mut may = Vec::with_capacity(alloc, documents.len())?;
-        for document in documents {
-            may.push(document.text.text.as_str().contains(BEGIN))?;
+        for _ in documents {
+            may.push(None)?;
         }
         Ok(Silences {
             alloc,
@@ -49,9 +49,16 @@ impl<'d> Silences<'d> {
         code: &str,
     ) -> Result<bool, AllocError> {
         let source = finding.source;
-        let (Some(true), Some(document)) = (self.may.get(source), self.documents.get(source)) else {
+        let Some(document) = self.documents.get(source) else {
             return Ok(false);
         };
+        let may = self.may_be_in(source, document);
+        if let Some(place) = self.may.get_mut(source) {
+            *place = Some(may);
+        }
+        if !may {
+            return Ok(false);
+        }
         if let Some(value) = document.value() {
             if let Some(depth) = depth_of(value, finding.path.as_slice(), code) {
                 let path = finding.path.get(..depth).unwrap_or(&[]);
@@ -70,11 +77,19 @@ impl<'d> Silences<'d> {
         Ok(false)
     }
 
+    // Whether the document with a number may have such comments.
+    fn may_be_in(&self, source: usize, document: &Document) -> bool {
+        match self.may.get(source) {
+            Some(Some(may)) => *may,
+            _ => document.text.text.as_str().contains(BEGIN),
+        }
+    }
+
     /// Those that silenced nothing: the number of the document, the line and the column of each, of those documents that are asked about.
     pub fn unused(&self, asked: usize) -> Result<Vec<(usize, usize, usize)>, AllocError> {
         let mut list = Vec::new(self.alloc);
         for (source, document) in self.documents.iter().enumerate() {
-            if source < asked && self.may.get(source).copied().unwrap_or(false) {
+            if source < asked && self.may_be_in(source, document) {
                 self.add_unused(&mut list, source, document)?;
             }
         }

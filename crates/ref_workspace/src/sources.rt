@@ -8,7 +8,7 @@ ghost use Rattle.ref_workspace.specs.Open.{document_of, workspace_of};
 ghost use Rattle.ref_workspace.specs.Workspace as spec;
 ghost use Rattle.ref_workspace.specs.Workspace.{as_source};
 
-use crate::described::{Described, add_described};
+use crate::described::{Described, add_described, is_among};
 use crate::finding::{Finding, Report, plain, push, push_all, push_plain};
 use crate::led::add_led;
 use crate::ruled::{add_told, without_misspelled};
@@ -78,6 +78,11 @@ fn push_number(list: &mut Vec<usize>, number: usize) -> Result<(), AllocError> {
     Ok(())
 }
 
+fn push_tree(trees: &mut Vec<Option<Value>>, tree: Option<Value>) -> Result<(), AllocError> {
+    trees.push(tree)?;
+    Ok(())
+}
+
 impl Workspace {
     // The sources of those documents that references may lead into.
     fn others<'d>(&'d self, alloc: Global) -> Result<Vec<Source<'d>>, AllocError>
@@ -103,21 +108,21 @@ impl Workspace {
     }
 
     // Adds what is wrong with those documents that are asked about and aren't parts of descriptions, which references may still lead
-    // into. Returns how many references they have.
+    // into; of those that are looked at. Returns how many references they have.
     fn add_plain<'d>(
         &'d self,
         alloc: Global,
-        is_described: &[bool],
+        described: &Described,
         list: &mut Vec<Finding<'d>>,
     ) -> Result<usize, AllocError> {
         let mut own = Vec::new(alloc);
         let mut numbers = Vec::new(alloc);
         let mut others = Vec::new(alloc);
         for (number, document) in self.documents().iter().enumerate() {
-            if number < self.asked() && !is_described.get(number).copied().unwrap_or(false) {
+            if number < self.asked() && described.is_plain_at(number) {
                 push_number(&mut numbers, number)?;
                 push_source(&mut own, document)?;
-            } else {
+            } else if described.has(number) {
                 push_source(&mut others, document)?;
             }
         }
@@ -132,21 +137,35 @@ impl Workspace {
     /// What is wrong with the documents that are asked about, whatever they are, and what is to be noted; and after it which
     /// retrieved documents have no value, and which texts of them mean no URI. Fails only if out of memory.
     pub fn full_report<'d>(&'d self, alloc: Global) -> Result<Report<'d>, AllocError> {
-        let mut described = Described::of(alloc, self)?;
+        self.report_among(alloc, &[], false)
+    }
+
+    /// The same as though there were no other documents than those that are looked at, and what was retrieved and has no text: by flags, by
+    /// the numbers of the documents. One without a flag is looked at. Places that no keyword leads to, but references, are looked for where there may be some, or
+    /// where `is_led` says so, since there are some in others.
+    pub fn report_among<'d>(
+        &'d self,
+        alloc: Global,
+        there: &[bool],
+        is_led: bool,
+    ) -> Result<Report<'d>, AllocError> {
+        let mut described = Described::among(alloc, self, there)?;
+        described.is_led = is_led;
         let mut more = Vec::new(alloc);
         add_described(alloc, self, &mut described, &mut more)?;
         let mut findings = Vec::new(alloc);
-        let references = self.add_plain(alloc, described.is_described.as_slice(), &mut findings)?;
+        let references = self.add_plain(alloc, &described, &mut findings)?;
         let led = add_led(alloc, self, references, &mut described, &mut more)?;
         let references = references.saturating_add(led);
         push_all(&mut findings, more)?;
         add_told(alloc, self, &described, &mut findings)?;
-        self.add_faults(alloc, &mut findings)?;
+        self.add_faults(alloc, &described, &mut findings)?;
         let unplaced = described.placed.unplaced(alloc, self)?;
         Ok(Report {
             findings,
             references: references.saturating_add(described.references),
             led,
+            is_plain: !described.is_led,
             descriptions: described.descriptions,
             places: described.places,
             unplaced,
@@ -157,6 +176,7 @@ impl Workspace {
     fn add_faults<'d>(
         &'d self,
         alloc: Global,
+        described: &Described,
         list: &mut Vec<Finding<'d>>,
     ) -> Result<(), AllocError> {
         let retrieved = self.documents().get(self.opened()..).unwrap_or(&[]);
@@ -165,8 +185,9 @@ impl Workspace {
         }
         let sources = sources_of(alloc, retrieved)?;
         for finding in report(alloc, self.draft(), sources.as_slice(), &[])?.findings {
-            if matches!(finding.problem, Problem::InvalidUri(_) | Problem::NotJson) {
-                let source = finding.source.saturating_add(self.opened());
+            let source = finding.source.saturating_add(self.opened());
+            let is_fault = matches!(finding.problem, Problem::InvalidUri(_) | Problem::NotJson);
+            if is_fault && described.has(source) {
                 push(list, plain(finding, source, &[]))?;
             }
         }
@@ -182,5 +203,30 @@ impl Workspace {
     {
         let sources = sources_of(alloc, self.documents())?;
         mended(alloc, self.draft(), sources.as_slice())
+    }
+
+    /// The same of those documents that are looked at, by flags: one without a flag is. Of the others there is none.
+    pub fn mended_among(
+        &self,
+        alloc: Global,
+        there: &[bool],
+    ) -> Result<Vec<Option<Value>>, AllocError> {
+        let mut sources = Vec::new(alloc);
+        let mut trees = Vec::new(alloc);
+        let mut numbers = Vec::new(alloc);
+        for (number, document) in self.documents().iter().enumerate() {
+            push_tree(&mut trees, None)?;
+            if is_among(there, number) {
+                push_number(&mut numbers, number)?;
+                push_source(&mut sources, document)?;
+            }
+        }
+        let found = mended(alloc, self.draft(), sources.as_slice())?;
+        for (number, tree) in numbers.into_iter().zip(found.into_iter()) {
+            if let Some(place) = trees.get_mut(number) {
+                *place = tree;
+            }
+        }
+        Ok(trees)
     }
 }

@@ -1,4 +1,5 @@
 //! The registry of the documents, for what goes on from one document to the next.
+use crate::described::is_among;
 use crate::finding::Finding;
 use crate::workspace::Workspace;
 use ref_draft::Draft;
@@ -43,7 +44,17 @@ pub fn world_of<'d>(
     workspace: &'d Workspace,
     trees: &'d [Option<Value>],
 ) -> Result<World<'d>, Error> {
-    let sources = first_of_each(alloc, workspace)?;
+    world_among(alloc, workspace, trees, &[])
+}
+
+/// The same of those documents that are looked at, by flags: one without a flag is.
+pub fn world_among<'d>(
+    alloc: Global,
+    workspace: &'d Workspace,
+    trees: &'d [Option<Value>],
+    there: &[bool],
+) -> Result<World<'d>, Error> {
+    let sources = first_of_each(alloc, workspace, there)?;
     let registry = prepared(alloc, workspace, trees, sources.as_slice())?;
     Ok(World { registry, sources })
 }
@@ -84,7 +95,7 @@ pub fn world_above<'d, 'o: 'd>(
     workspace: &Workspace,
     trees: &[Option<Value>],
 ) -> Result<World<'d>, Error> {
-    let sources = first_of_each(alloc, workspace)?;
+    let sources = first_of_each(alloc, workspace, &[])?;
     let registry = prepared_above(alloc, above, workspace, trees, sources.as_slice())?;
     Ok(World { registry, sources })
 }
@@ -154,12 +165,16 @@ const DRAFTS: [Draft; 5] = [
     Draft::Draft202012,
 ];
 
-// The numbers of the first documents under each URI.
-fn first_of_each(alloc: Global, workspace: &Workspace) -> Result<Vec<usize>, AllocError> {
+// The numbers of the first documents under each URI, of those that are looked at.
+fn first_of_each(
+    alloc: Global,
+    workspace: &Workspace,
+    there: &[bool],
+) -> Result<Vec<usize>, AllocError> {
     let mut seen = BTreeMap::new(alloc);
     let mut numbers = Vec::new(alloc);
     for number in 0..workspace.len() {
-        if let Some(uri) = workspace.uri(number) {
+        if let (true, Some(uri)) = (is_among(there, number), workspace.uri(number)) {
             if seen.insert(uri.as_str(), ())?.is_none() {
                 numbers.push(number)?;
             }
