@@ -55,6 +55,7 @@ enum Word {
     Color,
     Form,
     Language,
+    Components,
     Connected,
     Output,
     Minify,
@@ -279,6 +280,7 @@ fn words_of(subcommand: Subcommand) -> &'static [Word] {
             Word::NoConfig,
             Word::Yaml,
             Word::Language,
+            Word::Components,
             Word::Connected,
             Word::Base,
             Word::Draft,
@@ -512,6 +514,12 @@ fn row_of<'c>(word: Word) -> Row<'c> {
             "FORMAT",
             Kind::Value,
             "The language of the drawing, or json: the files and their references as one object",
+        ),
+        Word::Components => named(
+            "components",
+            "",
+            Kind::Flag,
+            "Also draw components by themselves: what is below components, definitions, parameters, responses and $defs",
         ),
         Word::Connected => named(
             "connected",

@@ -4,10 +4,10 @@ use crate::opened::{open_given, reported};
 use clap::ArgMatches;
 use ref_command_line::{Configured, Console, Stop};
 use ref_messages::{Edge, Graph, push_dot, push_member, push_mermaid};
-use ref_workspace::{Workspace, graph_of};
+use ref_workspace::{Shape, Workspace, graph_of};
 use std::alloc::{AllocError, Global};
 
-/// Draws which file refers to which. The status is 0, 1 where a file is neither JSON nor YAML, or 2 where a path couldn't be read.
+/// Draws which file refers to which, or which component. The status is 0, 1 where a file is neither JSON nor YAML, or 2 where a path couldn't be read.
 pub fn graph<'a>(
     rt: &HostRuntime,
     console: &mut Console<'_>,
@@ -35,10 +35,11 @@ fn draw(
     given: &ArgMatches<'_>,
     workspace: &Workspace,
 ) -> Result<(), Stop> {
-    let graph = reported(
-        rt,
-        graph_of(rt.alloc(), workspace, given.get_flag("connected")),
-    )?;
+    let shape = Shape {
+        has_components: given.get_flag("components"),
+        is_connected: given.get_flag("connected"),
+    };
+    let graph = reported(rt, graph_of(rt.alloc(), workspace, shape))?;
     let out = &mut console.out;
     let drawn = match given.get_str("format") {
         Some("dot") => push_dot(out, &graph),
@@ -49,7 +50,7 @@ fn draw(
     Ok(drawn?)
 }
 
-// Adds the graph as an object: `files`, `missing`, and `references`, each `from` one of these `to` one of these, how many there are as `count`, and how
+// Adds the graph as an object: `files`, with their components where these are drawn, `missing`, and `references`, each `from` one of these `to` one of these, how many there are as `count`, and how
 // many of them are unresolvable as `broken`.
 fn push_object(alloc: Global, out: &mut String, graph: &Graph) -> Result<(), AllocError> {
     push_names(alloc, out, "{\"files\":[", graph, false)?;

@@ -3,6 +3,8 @@
 #![tactic(auto)]
 
 mod baseline;
+mod components;
+pub mod examples;
 mod excerpt;
 mod full;
 mod github;
@@ -19,6 +21,7 @@ mod suggest;
 mod text;
 
 pub use baseline::Baseline;
+pub use components::component_of;
 pub use excerpt::Excerpt;
 pub use full::{Color, push_full};
 pub use github::push_annotation;

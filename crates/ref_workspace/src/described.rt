@@ -3,6 +3,7 @@ use crate::finding::{Finding, Problem, push};
 use crate::led::add_led_places;
 use crate::placed::Placed;
 use crate::workspace::Workspace;
+use crate::world::fragment_of;
 use ref_descriptions::{Reading, Under, references, version_of};
 use ref_findings::Problem as SchemaProblem;
 use ref_index::segments_of;
@@ -71,6 +72,8 @@ pub struct DescribedReference {
     pub place: usize,
     /// Whether it is a fragment alone.
     pub is_fragment: bool,
+    /// Its fragment, as it is written.
+    pub fragment: String,
     /// The URI that it means, without its fragment.
     pub uri: Uri,
 }
@@ -595,10 +598,12 @@ impl<'d> Description<'d> {
                 let mut uri = uri;
                 uri.drop_fragment();
                 let is_fragment = text.starts_with('#');
+                let fragment = String::from_str(alloc, fragment_of(text))?;
                 self.references.push(DescribedReference {
                     document,
                     place: self.places.len().saturating_sub(1),
                     is_fragment,
+                    fragment,
                     uri,
                 })?;
                 Ok(())

@@ -32,7 +32,7 @@ pub mod world;
 
 pub use describe::Describer;
 pub use described::{DescribedPlace, DescribedReference, Description};
-pub use edges::graph_of;
+pub use edges::{Shape, graph_of};
 pub use finding::{Finding, Problem, Report};
 pub use placed::{Unplaced, lines_of};
 pub use rules::RULES;

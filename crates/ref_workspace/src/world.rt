@@ -216,6 +216,14 @@ fn set_bearer(
     Ok(())
 }
 
+/// The fragment of a reference, as it is written: nothing where it has none.
+pub(crate) fn fragment_of(reference: &str) -> &str {
+    match reference.split_once('#') {
+        Some((_, fragment)) => fragment,
+        None => "",
+    }
+}
+
 /// A URI without its fragment.
 pub fn without_fragment(uri: &str) -> &str {
     match uri.split_once('#') {
