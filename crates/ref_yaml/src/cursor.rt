@@ -38,7 +38,10 @@ impl Cursor {
     // The next place on a line, or its end.
     pub(crate) fn on_line(text: &str, from: usize, line: usize) -> Cursor {
         let spaces = after_spaces(text, from);
-        let at = after_white(text, spaces);
+        let at = match peek(text, spaces) {
+            b'\t' => after_white(text, spaces),
+            _ => spaces,
+        };
         Cursor {
             at,
             line,

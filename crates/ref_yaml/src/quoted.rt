@@ -32,19 +32,16 @@ pub(crate) fn double_end(text: &str, from: usize) -> Option<Span> {
     let mut is_escaped = false;
     let mut is_one_line = true;
     for (at, byte) in bytes_from(text, from).iter().enumerate() {
-        match *byte {
-            b'"' if !is_escaped => {
-                return Some(Span {
-                    end: from.saturating_add(at),
-                    is_one_line,
-                });
-            }
-            b'\\' => is_escaped = !is_escaped,
-            b'\n' | b'\r' => {
-                is_one_line = false;
-                is_escaped = false;
-            }
-            _ => is_escaped = false,
+        if *byte > b'\r' && *byte != b'"' && *byte != b'\\' {
+            is_escaped = false;
+        } else if *byte == b'"' && !is_escaped {
+            return Some(Span {
+                end: from.saturating_add(at),
+                is_one_line,
+            });
+        } else {
+            is_escaped = *byte == b'\\' && !is_escaped;
+            is_one_line = is_one_line && !is_break(*byte);
         }
     }
     None

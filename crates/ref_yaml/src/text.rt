@@ -60,11 +60,17 @@ fn same_bytes(alloc: Global, source: &[u8]) -> Result<Vec<u8>, AllocError>
     Ok(out)
 }
 
-// Whether bytes have no carriage return.
+// Whether bytes have no carriage return. The loop has no other way out, so that it takes many bytes at a time.
 fn is_without_returns(source: &[u8]) -> bool
-    ensures value { IsTrue result ↔ All IsNoReturn source.now }
+    ensures value { IsTrue result → All IsNoReturn source.now }
 {
-    source.iter().all(|byte| *byte != b'\r')
+    let mut has_one = false;
+    for byte in source {
+        if *byte == b'\r' {
+            has_one = true;
+        }
+    }
+    !has_one
 }
 
 // Lines that are folded, whatever breaks them.
