@@ -284,12 +284,8 @@ impl<'l, 'd> Describer<'l, 'd> {
 
     fn suggestion_in(&mut self, uri: &Uri, error: &Error) -> Result<Option<Meant>, AllocError> {
         self.prepare_near()?;
-        let resources = match &self.near {
-            Some(resources) => resources,
-            None => match &self.resources {
-                Some(resources) => resources,
-                None => return Ok(None),
-            },
+        let Some(resources) = first_of(&self.near, &self.resources) else {
+            return Ok(None);
         };
         match resources.get(uri.as_str()) {
             Some(resource) => suggestion(self.alloc, &mut self.suggester, resource, error),
@@ -452,6 +448,17 @@ fn description_text(
         ": only its references in JSON Schema places were checked",
     ]
     .join(alloc, "")
+}
+
+// The first of two that is there.
+fn first_of<'x, 'd>(
+    near: &'x Option<Resources<'d>>,
+    all: &'x Option<Resources<'d>>,
+) -> Option<&'x Resources<'d>> {
+    match near {
+        Some(resources) => Some(resources),
+        None => all.as_ref(),
+    }
 }
 
 // That a reference leads to an object of another kind than the one that is needed.
