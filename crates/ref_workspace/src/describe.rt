@@ -284,7 +284,7 @@ impl<'l, 'd> Describer<'l, 'd> {
 
     fn suggestion_in(&mut self, uri: &Uri, error: &Error) -> Result<Option<Meant>, AllocError> {
         self.prepare_near()?;
-        let Some(resources) = first_of(&self.near, &self.resources) else {
+        let Some(resources) = either_of(&self.near, &self.resources) else {
             return Ok(None);
         };
         match resources.get(uri.as_str()) {
@@ -451,7 +451,7 @@ fn description_text(
 }
 
 // The first of two that is there.
-fn first_of<'x, 'd>(
+fn either_of<'x, 'd>(
     near: &'x Option<Resources<'d>>,
     all: &'x Option<Resources<'d>>,
 ) -> Option<&'x Resources<'d>> {
