@@ -119,7 +119,7 @@ fn served<R: Source + Drop, W: Sink + Drop>(
             Event::Asks(call) => asked(desk, shown, wire, call)?,
             Event::Settles => {
                 desk.settle()?;
-                turn(desk, None, shown, wire)?
+                turn(desk, None, None, shown, wire)?
             }
         };
     }
@@ -135,7 +135,7 @@ fn after_move<R: Source + Drop, W: Sink + Drop>(
     if desk.is_reset {
         return Ok(Event::Ends(Ending::Configure));
     }
-    turn(desk, None, shown, wire)
+    turn(desk, None, None, shown, wire)
 }
 
 // Answers a request, which may need the registry of the documents, and goes on with that until something changes.
@@ -150,27 +150,17 @@ fn asked<R: Source + Drop, W: Sink + Drop>(
         viewing(desk, shown, wire, call)
     } else {
         judged(desk, shown, wire, call)?;
-        turn(desk, None, shown, wire)
+        turn(desk, None, None, shown, wire)
     }
 }
 
-// The registry of documents, and what is asked by it.
-#[derive(Drop)]
-struct Seen<'s, 'w, 'd> {
-    view: &'s View<'w, 'd>,
-    // The number of the document that it serves: nothing where it is all of them.
-    number: Option<usize>,
-}
-
-impl Seen<'_, '_, '_> {
-    // Whether it serves what is asked of the document with a number, or of all. Where the client's text has no value, what is asked for
-    // depends on the place.
-    fn serves(&self, desk: &Desk<'_>, asked: Option<usize>) -> bool {
-        match (self.number, asked) {
-            (None, _) => true,
-            (Some(number), Some(asked)) => number == asked && desk.fault_of(number).is_none(),
-            _ => false,
-        }
+// Whether a registry that is there for the document with a number, or for all, serves what is asked of one, or of all. Where the client's text has no value, what is
+// asked for depends on the place.
+fn serves(desk: &Desk<'_>, served: Option<usize>, asked: Option<usize>) -> bool {
+    match (served, asked) {
+        (None, _) => true,
+        (Some(number), Some(asked)) => number == asked && desk.fault_of(number).is_none(),
+        _ => false,
     }
 }
 
@@ -200,17 +190,13 @@ fn viewing<R: Source + Drop, W: Sink + Drop>(
     match world_among(alloc, &desk.workspace, trees.as_slice(), there.as_slice()) {
         Ok(world) => {
             let view = View::of(alloc, &desk.workspace, &world)?;
-            let number = if there.is_empty() { None } else { asked };
-            let seen = Seen {
-                view: &view,
-                number,
-            };
-            by_world(desk, &seen, shown, wire, call)
+            let served = if there.is_empty() { None } else { asked };
+            by_world(desk, &view, served, shown, wire, call)
         }
         Err(error) => {
             drop_error(error);
             wire.answer(alloc, Err(Refusal::Memory))?;
-            turn(desk, None, shown, wire)
+            turn(desk, None, None, shown, wire)
         }
     }
 }
@@ -218,13 +204,14 @@ fn viewing<R: Source + Drop, W: Sink + Drop>(
 // Answers a request by the registry of the documents, and goes on with it.
 fn by_world<R: Source + Drop, W: Sink + Drop>(
     desk: &Desk<'_>,
-    seen: &Seen<'_, '_, '_>,
+    view: &View<'_, '_>,
+    served: Option<usize>,
     shown: &mut Shown,
     wire: &mut Wire<R, W>,
     call: Call,
 ) -> Result<Event, Ending> {
-    viewed(desk, seen.view, wire, call)?;
-    turn(desk, Some(seen), shown, wire)
+    viewed(desk, view, wire, call)?;
+    turn(desk, Some(view), served, shown, wire)
 }
 
 fn drop_error(error: Error) {
@@ -234,7 +221,8 @@ fn drop_error(error: Error) {
 // Answers what changes nothing, until something does or, where there is no registry, one is needed.
 fn turn<R: Source + Drop, W: Sink + Drop>(
     desk: &Desk<'_>,
-    seen: Option<&Seen<'_, '_, '_>>,
+    view: Option<&View<'_, '_>>,
+    served: Option<usize>,
     shown: &mut Shown,
     wire: &mut Wire<R, W>,
 ) -> Result<Event, Ending> {
@@ -242,7 +230,7 @@ fn turn<R: Source + Drop, W: Sink + Drop>(
     for _ in 0..u64::MAX {
         match wire.next(alloc)? {
             Heard::Frame(message) => {
-                if let Some(event) = taken(desk, seen, shown, wire, message)? {
+                if let Some(event) = taken(desk, view, served, shown, wire, message)? {
                     return Ok(event);
                 }
             }
@@ -282,7 +270,8 @@ fn ended(phase: Phase) -> Ending {
 // Takes the content of a frame: answers it, or returns what is to be done with it.
 fn taken<R: Source + Drop, W: Sink + Drop>(
     desk: &Desk<'_>,
-    seen: Option<&Seen<'_, '_, '_>>,
+    view: Option<&View<'_, '_>>,
+    served: Option<usize>,
     shown: &mut Shown,
     wire: &mut Wire<R, W>,
     message: Option<Value>,
@@ -303,7 +292,7 @@ fn taken<R: Source + Drop, W: Sink + Drop>(
                 }
                 Due::Do(method) => {
                     let call = Call { method, message };
-                    called(desk, seen, shown, wire, call)
+                    called(desk, view, served, shown, wire, call)
                 }
             }
         }
@@ -343,7 +332,8 @@ fn moves(method: Method) -> bool {
 // Does what a call in its time says, or returns what is to be done with it.
 fn called<R: Source + Drop, W: Sink + Drop>(
     desk: &Desk<'_>,
-    seen: Option<&Seen<'_, '_, '_>>,
+    view: Option<&View<'_, '_>>,
+    served: Option<usize>,
     shown: &mut Shown,
     wire: &mut Wire<R, W>,
     call: Call,
@@ -359,14 +349,15 @@ fn called<R: Source + Drop, W: Sink + Drop>(
             wire.answer(desk.alloc(), Ok(result))?;
             Ok(None)
         }
-        _ => still(desk, seen, shown, wire, call),
+        _ => still(desk, view, served, shown, wire, call),
     }
 }
 
 // Answers a request that changes nothing, or asks for what it needs.
 fn still<R: Source + Drop, W: Sink + Drop>(
     desk: &Desk<'_>,
-    seen: Option<&Seen<'_, '_, '_>>,
+    view: Option<&View<'_, '_>>,
+    served: Option<usize>,
     shown: &mut Shown,
     wire: &mut Wire<R, W>,
     call: Call,
@@ -379,9 +370,9 @@ fn still<R: Source + Drop, W: Sink + Drop>(
         return Ok(None);
     }
     let asked = asked_of(desk, &call)?;
-    match seen {
-        Some(seen) if seen.serves(desk, asked) => {
-            viewed(desk, seen.view, wire, call)?;
+    match view {
+        Some(view) if serves(desk, served, asked) => {
+            viewed(desk, view, wire, call)?;
             Ok(None)
         }
         _ => Ok(Some(Event::Asks(call))),
