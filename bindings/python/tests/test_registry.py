@@ -313,6 +313,8 @@ class Registries(unittest.TestCase):
         self.assertEqual(bundle["$defs"], {"https://example.com/b": {"$id": "https://example.com/b", "type": "string"}})
         with self.assertRaises(patchsard.NoSuchResource):
             registry.bundle("https://example.com/c")
+        grouped = Registry([("https://example.com/a", {"$ref": "#/x/y", "x": {"y": {"$ref": "b"}}}), ("https://example.com/b", {"type": "string"})])
+        self.assertEqual(grouped.bundle("https://example.com/a")["$defs"], {"https://example.com/b": {"$id": "https://example.com/b", "type": "string"}})
         with self.assertRaises(patchsard.NotBundled) as raised:
             Registry([("https://example.com/a", {"$ref": "b"}), ("https://example.com/b", True)]).bundle("https://example.com/a")
         self.assertTrue(raised.exception.reason)

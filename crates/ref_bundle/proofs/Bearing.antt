@@ -16,9 +16,9 @@ use Rattle.ref_paths.specs.Alike.{part_equivalence}
 use Rattle.ref_definitions.specs.World.{Document, Layer}
 use Rattle.ref_definitions.specs.Places.{Place, places}
 use Rattle.ref_definitions.specs.Resources.{last_under, resource_of, own_uri}
-use Rattle.ref_bundle.specs.Needed.{counted_documents, Site, borne_in, sites_of_uris}
+use Rattle.ref_bundle.specs.Needed.{counted_documents, Site, borne_in, sites_of_uris, Seen}
 use Rattle.ref_bundle.specs.Bundle.{is_site, other_bearer}
-use Rattle.ref_bundle.specs.inner.Seen.{Seen, see, seen_in}
+use Rattle.ref_bundle.specs.inner.Seen.{see, seen_in}
 use Rattle.ref_bundle.specs.inner.Tables.{site_of, table_of, entry_under, borne_at, is_other}
 use Rattle.ref_bundle.specs.declared.tables.Site as rust
 use Rattle.ref_bundle.proofs.Numbers.{and_left, and_right}

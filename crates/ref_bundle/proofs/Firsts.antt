@@ -9,9 +9,9 @@ use Rattle.serde_json.specs.Find.{as_object}
 use Rattle.ref_paths.specs.Path.{path_eq}
 use Rattle.ref_paths.specs.Segment.{part_of}
 use Rattle.ref_paths.specs.declared.path.JsonPointerSegment.{JsonPointerSegment}
-use Rattle.ref_bundle.specs.Needed.{Site, sites_of_uris, site_under, Reference}
+use Rattle.ref_bundle.specs.Needed.{Further, Site, sites_of_uris, site_under, Reference, Seen}
 use Rattle.ref_bundle.specs.Bundle.{Problem, AddedMember, root_problems, at_path, place_problems, place_refusals, shadowed_uri, embedded_problems, reference_problems, reference_problems_by, map_refusals, shared_uri}
-use Rattle.ref_bundle.specs.inner.Seen.{Seen, see, seen_in, own_uri_of}
+use Rattle.ref_bundle.specs.inner.Seen.{see, seen_in, own_uri_of}
 use Rattle.ref_bundle.specs.inner.First.{first, first_found, refusals_seen, shared_seen, taken_in}
 use Rattle.ref_bundle.proofs.Lists.{joined_more}
 
@@ -70,33 +70,33 @@ found_here f v (y ∷ xs) (suc i) x a within is before here =
 
 -- ---- the refusals of places
 
-pub of_places : (layer : Layer) (world : World) (top e : ℕ × Document) → flat_map (refusals_seen layer world top e.1.uri) (seen_in e) ≡ place_refusals layer world top e
-of_places layer world top e = of_list (places e.1)
+pub of_places : (layer : Layer) (fs : Further) (world : World) (top e : ℕ × Document) → flat_map (refusals_seen layer fs world top e.1.uri) (seen_in e) ≡ place_refusals layer fs world top e
+of_places layer fs world top e = of_list (places e.1)
   where
-    of_list : (ps : List Place) → flat_map (refusals_seen layer world top e.1.uri) (map (see e.0) ps) ≡ flat_map (λ p. map (at_path e.0 p.path) (place_problems layer world top e p)) ps
+    of_list : (ps : List Place) → flat_map (refusals_seen layer fs world top e.1.uri) (map (see e.0) ps) ≡ flat_map (λ p. map (at_path e.0 p.path) (place_problems layer fs world top e p)) ps
     of_list [] = refl
-    of_list (p ∷ ps) = ap (λ l. map (at_path e.0 p.path) (place_problems layer world top e p) ++ l) (of_list ps)
+    of_list (p ∷ ps) = ap (λ l. map (at_path e.0 p.path) (place_problems layer fs world top e p) ++ l) (of_list ps)
 
 -- ---- the refusals of references and definitions
 
-pub embedded_is : (layer : Layer) (world : World) (top : ℕ × Document) (r : Reference) (s : Site) (d : Document) → site_under layer r.uri ≡ Some s → (s.0 == top.0) ≡ false → slice_get layer s.0 ≡ Some d
-    → embedded_problems top.1.draft r s.1 d ≡ reference_problems layer world top r
-embedded_is layer world top r s d under other at =
+pub embedded_is : (layer : Layer) (fs : Further) (world : World) (top : ℕ × Document) (r : Reference) (s : Site) (d : Document) → site_under layer r.uri ≡ Some s → (s.0 == top.0) ≡ false → slice_get layer s.0 ≡ Some d
+    → embedded_problems top.1.draft r s.1 d ≡ reference_problems layer fs world top r
+embedded_is layer fs world top r s d under other at =
     let f = embedded_problems top.1.draft r s.1 in
-    sym (ap (reference_problems_by layer world top r) under ∙ ap (λ b. cond b (root_problems layer top r s.1) (option_map_or f (slice_get layer s.0) [])) other ∙ ap (λ o. option_map_or f o []) at)
+    sym (ap (reference_problems_by layer fs world top r) under ∙ ap (λ b. cond b (root_problems layer fs top r s.1) (option_map_or f (slice_get layer s.0) [])) other ∙ ap (λ o. option_map_or f o []) at)
 
-pub embedded_not : (layer : Layer) (world : World) (top : ℕ × Document) (r : Reference) (s : Site) → site_under layer r.uri ≡ Some s → (s.0 == top.0) ≡ false → slice_get layer s.0 ≡ None → [] ≡ reference_problems layer world top r
-embedded_not layer world top r s under other at =
+pub embedded_not : (layer : Layer) (fs : Further) (world : World) (top : ℕ × Document) (r : Reference) (s : Site) → site_under layer r.uri ≡ Some s → (s.0 == top.0) ≡ false → slice_get layer s.0 ≡ None → [] ≡ reference_problems layer fs world top r
+embedded_not layer fs world top r s under other at =
     let f = embedded_problems top.1.draft r s.1 in
-    sym (ap (reference_problems_by layer world top r) under ∙ ap (λ b. cond b (root_problems layer top r s.1) (option_map_or f (slice_get layer s.0) [])) other ∙ ap (λ o. option_map_or f o []) at)
+    sym (ap (reference_problems_by layer fs world top r) under ∙ ap (λ b. cond b (root_problems layer fs top r s.1) (option_map_or f (slice_get layer s.0) [])) other ∙ ap (λ o. option_map_or f o []) at)
 
-pub of_top : (layer : Layer) (world : World) (top : ℕ × Document) (r : Reference) (s : Site) → site_under layer r.uri ≡ Some s → (s.0 == top.0) ≡ true → root_problems layer top r s.1 ≡ reference_problems layer world top r
-of_top layer world top r s under same =
-    sym (ap (reference_problems_by layer world top r) under ∙ ap (λ b. cond b (root_problems layer top r s.1) (option_map_or (embedded_problems top.1.draft r s.1) (slice_get layer s.0) [])) same)
+pub of_top : (layer : Layer) (fs : Further) (world : World) (top : ℕ × Document) (r : Reference) (s : Site) → site_under layer r.uri ≡ Some s → (s.0 == top.0) ≡ true → root_problems layer fs top r s.1 ≡ reference_problems layer fs world top r
+of_top layer fs world top r s under same =
+    sym (ap (reference_problems_by layer fs world top r) under ∙ ap (λ b. cond b (root_problems layer fs top r s.1) (option_map_or (embedded_problems top.1.draft r s.1) (slice_get layer s.0) [])) same)
 
-pub of_parent : (layer : Layer) (world : World) (top : ℕ × Document) (r : Reference) → site_under layer r.uri ≡ None → shadowed_uri layer world r ≡ first (reference_problems layer world top r)
-of_parent layer world top r under =
-    sym (ap (λ o. first (reference_problems_by layer world top r o)) under ∙ first_option (shadowed_uri layer world r))
+pub of_parent : (layer : Layer) (fs : Further) (world : World) (top : ℕ × Document) (r : Reference) → site_under layer r.uri ≡ None → shadowed_uri layer world r ≡ first (reference_problems layer fs world top r)
+of_parent layer fs world top r under =
+    sym (ap (λ o. first (reference_problems_by layer fs world top r o)) under ∙ first_option (shadowed_uri layer world r))
 
 pub map_is : (top : ℕ) (keyword : List ℕ) (value : Data) (es : List (ℕ × Document)) → is_some (as_object value) ≡ true → flat_map (taken_in top keyword value) es ≡ map_refusals top keyword (Some value) es
 map_is top keyword null es is = absurd (true≢false (sym is))

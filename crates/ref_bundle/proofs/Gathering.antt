@@ -1,6 +1,6 @@
 -- The places of documents, gathered document by document.
 use Rattle.std.specs.Prelude.{nat_lt, slice_get, MatchOption}
-use Rattle.std.proofs.Common.{◌≡◌, ℕ, zero, suc, ◌+◌, ◌≤◌, false, cond, List, [], ◌∷◌, ◌++◌, map, flat_map, length, drop, Option, Some, option_map, option_and_then, Vec, Global, refl, ap, sym, subst, ◌∙◌, append_assoc, append-nil, arith, true≢false}
+use Rattle.std.proofs.Common.{◌≡◌, ℕ, zero, suc, ◌+◌, ◌≤◌, false, cond, List, [], ◌∷◌, ◌++◌, map, flat_map, length, drop, Option, None, Some, option_map, option_and_then, Vec, Global, refl, ap, sym, subst, ◌∙◌, append_assoc, append-nil, arith, true≢false}
 use Rattle.std.specs.List.{AllByRecursion, Contains}
 use Rattle.std.specs.Option.{option_to_list}
 use Rattle.std.proofs.lemmas.Bool.{lt-ltb, ltb-true}
@@ -12,8 +12,9 @@ use Rattle.ref_definitions.specs.World.{Document, Layer}
 use Rattle.ref_definitions.specs.Places.{Place, places, root, levels_below}
 use Rattle.serde_json.specs.Data.{depth}
 use Rattle.ref_definitions.specs.Listing.{listed_place, listed_from, local_places}
-use Rattle.ref_bundle.specs.Needed.{counted_documents}
-use Rattle.ref_bundle.specs.inner.Seen.{Seen, see, seen_spot, seen_in, see_listed, all_seen, put_last, put_place, gathered_places, numbered_document, HasPlaces}
+use Rattle.ref_bundle.specs.Needed.{counted_documents, Seen, further_in}
+use Rattle.ref_bundle.specs.inner.Seen.{see, seen_in, see_listed, all_seen, put_last, put_place, gathered_places, numbered_document, HasPlaces}
+use Rattle.ref_bundle.specs.Saying.{seen_spot, further_of}
 use Rattle.ref_bundle.proofs.Numbers.{one_test}
 use Rattle.ref_bundle.specs.declared.own.Own.{Own}
 use Rattle.ref_bundle.specs.declared.own.Spot.{Spot}
@@ -103,6 +104,17 @@ all_gathered layer are_there =
 
 abbrev pub items : Vec Spot Global → List Seen
 items g = map seen_spot g.items
+
+-- the further places of a document
+pub further_there : (further : List (Vec Spot Global)) (n : ℕ) (spots : Vec Spot Global) → slice_get further n ≡ Some spots → further_in (further_of further) n ≡ map seen_spot spots.items
+further_there [] n spots is = cc
+further_there (g ∷ gs) zero spots is = ap items (let e : g ≡ spots = cc in e)
+further_there (g ∷ gs) (suc n) spots is = further_there gs n spots is
+
+pub further_missing : (further : List (Vec Spot Global)) (n : ℕ) → slice_get further n ≡ None → further_in (further_of further) n ≡ []
+further_missing [] n is = refl
+further_missing (g ∷ gs) zero is = cc
+further_missing (g ∷ gs) (suc n) is = further_missing gs n is
 
 -- some documents were added, and the places of the others are left
 pub record IsPartly (layer : Layer) (rest : List (List Seen)) (owns : List Own) : Type 0 where

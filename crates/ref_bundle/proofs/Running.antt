@@ -12,9 +12,9 @@ use Rattle.std.proofs.lemmas.Option.{slice_get_within}
 use Rattle.std.proofs.lemmas.Bool.{eqb-true, eq-eqb}
 use Rattle.ref_definitions.specs.World.{Document, Layer}
 use Rattle.ref_definitions.specs.Places.{Place, places}
-use Rattle.ref_bundle.specs.Needed.{is_among, document_under, targets, targets_from, referred_in, numbers_of_needed}
+use Rattle.ref_bundle.specs.Needed.{Further, counted_documents, is_among, document_under, targets, targets_from, referred_in, referred_by_seen, referred_of, referred_from, numbers_of_needed, Seen}
 use Rattle.ref_bundle.specs.inner.Reach.{State, is_marked, added_where, added_document, all_added, list_at, IsReach, count, IsRun}
-use Rattle.ref_bundle.specs.inner.Seen.{Seen, see, seen_in}
+use Rattle.ref_bundle.specs.inner.Seen.{see, seen_in}
 use Rattle.ref_bundle.proofs.Numbers.{or_cases, or_left, or_right, one_test, among_last}
 use Rattle.ref_bundle.proofs.Rounds.{root_needed, referred_needed, needed_least}
 
@@ -240,28 +240,38 @@ run_within lists root head s run =
 
 -- ---- what is reached is what is needed
 
-referred_at : (layer ds : Layer) (n : ℕ) → list_at (map (referred_in layer) ds) n ≡ option_map_or (referred_in layer) (slice_get ds n) []
-referred_at layer [] n = refl
-referred_at layer (d ∷ ds) zero = refl
-referred_at layer (d ∷ ds) (suc n) = referred_at layer ds n
+referred_at : (layer : Layer) (fs : Further) (k : ℕ) (ds : Layer) (n : ℕ) → list_at (map (referred_of layer fs) (counted_documents k ds)) n ≡ option_map_or (λ d. referred_of layer fs (k + n, d)) (slice_get ds n) []
+referred_at layer fs k [] n = refl
+referred_at layer fs k (d ∷ ds) zero = ap (λ m. referred_of layer fs (m, d)) (let e : k ≡ k + 0 = omega arith in e)
+referred_at layer fs k (d ∷ ds) (suc n) =
+    referred_at layer fs (suc k) ds n ∙ ap (λ m. option_map_or (λ c. referred_of layer fs (m, c)) (slice_get ds n) []) (let e : suc k + n ≡ k + suc n = omega arith in e)
+
+-- the list at a number is what the document with that number refers to
+referred_there : (layer : Layer) (fs : Further) (n : ℕ) → list_at (map (referred_of layer fs) (counted_documents 0 layer)) n ≡ referred_from layer fs n
+referred_there layer fs n =
+    referred_at layer fs 0 layer n ∙ ap (λ m. option_map_or (λ d. referred_of layer fs (m, d)) (slice_get layer n) []) (let e : 0 + n ≡ n = omega arith in e)
 
 map_length : {X Y : Type 0} (f : X → Y) (xs : List X) → length (map f xs) ≡ length xs
 map_length f [] = refl
 map_length f (x ∷ xs) = ap suc (map_length f xs)
 
+counted_length : (k : ℕ) (ds : Layer) → length (counted_documents k ds) ≡ length ds
+counted_length k [] = refl
+counted_length k (d ∷ ds) = ap suc (counted_length (suc k) ds)
+
 -- the numbers that are reached by what documents refer to are those of the documents that are needed
-pub reached_are_needed : (layer : Layer) (root : ℕ) (marks : List Bool) → IsReach (map (referred_in layer) layer) root marks
-    → (n : ℕ) → is_marked marks n ≡ is_among (numbers_of_needed layer root) n
-reached_are_needed layer root marks reach n =
-    let lists = map (referred_in layer) layer in
-    let long : length lists ≡ length layer = map_length (referred_in layer) layer in
-    one_test (is_marked marks n) (is_among (numbers_of_needed layer root) n)
-    (reach.least (is_among (numbers_of_needed layer root))
-    (λ within. root_needed layer root (subst (λ k. root < k) long within))
-    (λ a m is among within. referred_needed layer root a m is (ap (λ l. is_among l m) (sym (referred_at layer layer a)) ∙ among) (subst (λ k. m < k) long within)) n)
-    (needed_least layer root (is_marked marks)
+pub reached_are_needed : (layer : Layer) (fs : Further) (root : ℕ) (marks : List Bool) → IsReach (map (referred_of layer fs) (counted_documents 0 layer)) root marks
+    → (n : ℕ) → is_marked marks n ≡ is_among (numbers_of_needed layer fs root) n
+reached_are_needed layer fs root marks reach n =
+    let lists = map (referred_of layer fs) (counted_documents 0 layer) in
+    let long : length lists ≡ length layer = map_length (referred_of layer fs) (counted_documents 0 layer) ∙ counted_length 0 layer in
+    one_test (is_marked marks n) (is_among (numbers_of_needed layer fs root) n)
+    (reach.least (is_among (numbers_of_needed layer fs root))
+    (λ within. root_needed layer fs root (subst (λ k. root < k) long within))
+    (λ a m is among within. referred_needed layer fs root a m is (ap (λ l. is_among l m) (sym (referred_there layer fs a)) ∙ among) (subst (λ k. m < k) long within)) n)
+    (needed_least layer fs root (is_marked marks)
     (λ within. reach.start (subst (λ k. root < k) (sym long) within))
-    (λ a m is among within. reach.closed a m is (ap (λ l. is_among l m) (referred_at layer layer a) ∙ among) (subst (λ k. m < k) (sym long) within)) n)
+    (λ a m is among within. reach.closed a m is (ap (λ l. is_among l m) (referred_there layer fs a) ∙ among) (subst (λ k. m < k) (sym long) within)) n)
 
 -- ---- the steps of the program
 
@@ -294,7 +304,7 @@ of_seen n (p ∷ ps) = ap (λ l. targets p ++ l) (of_seen n ps)
 
 -- what the places of a document refer to
 pub referred_is : (layer : Layer) (e : ℕ × Document) (ss : List Seen) → ss ≡ seen_in e
-    → flat_map (λ uri. option_to_list (document_under layer uri)) (flat_map (λ s. targets_from s.base s.value) ss) ≡ referred_in layer e.1
+    → referred_by_seen layer ss ≡ referred_in layer e.1
 referred_is layer e ss is =
     ap (λ l. flat_map (λ uri. option_to_list (document_under layer uri)) (flat_map (λ s. targets_from s.base s.value) l)) is
     ∙ ap (flat_map (λ uri. option_to_list (document_under layer uri))) (of_seen e.0 (places e.1))

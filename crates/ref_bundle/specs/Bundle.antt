@@ -11,12 +11,13 @@ use Rattle.ref_paths.specs.Path.{Part, Key, path_eq}
 use Rattle.ref_parts.specs.Pointer.{slash, unescape, tokens}
 use Rattle.ref_draft.specs.declared.draft.Draft.{Draft}
 use Rattle.ref_draft.specs.Keywords.{id_keyword, is_before_2019}
+use Rattle.ref_draft.specs.Children.{is_object}
 use Rattle.ref_uri.specs.Targets.{uri_against}
 use Rattle.ref_definitions.specs.World.{Document, Layer, World, local_documents}
 use Rattle.ref_definitions.specs.Places.{Place, identifier_of, places}
 use Rattle.ref_definitions.specs.Resources.{own_uri, meant_place}
-use Rattle.ref_bundle.specs.Needed.{Site, sites_of_uris, site_under, document_under, Reference, references, is_among, numbers_of_needed, needed_documents}
-use Rattle.ref_bundle.specs.Embedding.{Obstacle, base_uri, added_schema, embedded_tree, with_member, is_added_under, obstacle}
+use Rattle.ref_bundle.specs.Needed.{Site, sites_of_uris, site_under, document_under, Reference, references_from, references, Seen, Further, further_in, is_among, numbers_of_needed, needed_documents}
+use Rattle.ref_bundle.specs.Embedding.{Obstacle, NotAnObject, base_uri, added_schema, embedded_tree, with_member, is_added_under, obstacle}
 
 -- a document that a bundle has under its definitions: its number, its base URI, whether a member for it was added or
 -- the one there replaced, and the `$schema` that was added
@@ -35,7 +36,7 @@ pub record Bundle : Type 0 where
 pub data Problem : Type 0 where
   -- no document has the number of the root
   NoDocument : Problem
-  -- a document that is needed can't be embedded
+  -- a document that is needed can't be embedded, or a root can't have others
   NotEmbedded : Obstacle → Problem
   -- what the root has under the keyword of definitions is no object
   NoMap : Problem
@@ -174,53 +175,73 @@ embedded_problems draft r path d =
     replaced_in r.uri d ++ (if path_eq path [] then added_in draft r d else [])
 
 -- whether a document, by its number, is one that has to be embedded, and has this base URI
-abbrev pub is_embedded_as : Layer → ℕ → List ℕ → ℕ → Bool
-is_embedded_as layer top uri number =
-    not (number == top) && is_among (numbers_of_needed layer top) number
+abbrev pub is_embedded_as : Layer → Further → ℕ → List ℕ → ℕ → Bool
+is_embedded_as layer further top uri number =
+    not (number == top) && is_among (numbers_of_needed layer further top) number
     && option_map_or (λ d. bytes_eq (base_uri d) uri) (slice_get layer number) false
 
 -- whether a bundle adds the definition under this key: an embedded document's, by its base URI
-abbrev pub is_added_definition : Layer → ℕ → List ℕ → Bool
-is_added_definition layer top key =
-    option_map_or (is_embedded_as layer top key) (document_under layer key) false
+abbrev pub is_added_definition : Layer → Further → ℕ → List ℕ → Bool
+is_added_definition layer further top key =
+    option_map_or (is_embedded_as layer further top key) (document_under layer key) false
 
 -- the problem of a pointer from the root to a definition that is added, or to what is below it
-abbrev pub added_definition : Layer → ℕ × Document → Reference → List Problem
-added_definition layer top r =
+abbrev pub added_definition : Layer → Further → ℕ × Document → Reference → List Problem
+added_definition layer further top r =
     option_map_or
-    (λ key. if is_added_definition layer top.0 key then AddedMember r.uri key ∷ [] else [])
+    (λ key. if is_added_definition layer further top.0 key then AddedMember r.uri key ∷ []
+    else [])
     (option_and_then (second_key (definitions_keyword top.1.draft)) (pointer_in r.fragment)) []
 
 -- the problems of a reference to a place of the root's document
-abbrev pub root_problems : Layer → ℕ × Document → Reference → List Part → List Problem
-root_problems layer top r path = if path_eq path [] then added_definition layer top r else []
+abbrev pub root_problems : Layer → Further → ℕ × Document → Reference → List Part → List Problem
+root_problems layer further top r path =
+    if path_eq path [] then added_definition layer further top r else []
 
 -- the problems of a reference, by the own place that its URI means, or else by the place of a parent
-abbrev pub reference_problems_by : Layer → World → ℕ × Document → Reference → Option Site
-    → List Problem
-reference_problems_by layer world top r None = option_to_list (shadowed_uri layer world r)
-reference_problems_by layer world top r (Some s) =
-    if s.0 == top.0 then root_problems layer top r s.1
+abbrev pub reference_problems_by : Layer → Further → World → ℕ × Document → Reference
+    → Option Site → List Problem
+reference_problems_by layer further world top r None =
+    option_to_list (shadowed_uri layer world r)
+reference_problems_by layer further world top r (Some s) =
+    if s.0 == top.0 then root_problems layer further top r s.1
     else option_map_or (embedded_problems top.1.draft r s.1) (slice_get layer s.0) []
 
-abbrev pub reference_problems : Layer → World → ℕ × Document → Reference → List Problem
-reference_problems layer world top r =
-    reference_problems_by layer world top r (site_under layer r.uri)
+abbrev pub reference_problems : Layer → Further → World → ℕ × Document → Reference → List Problem
+reference_problems layer further world top r =
+    reference_problems_by layer further world top r (site_under layer r.uri)
 
 -- the problems of a place of a needed document: of the URIs that it has, then of what it refers to
-abbrev pub place_problems : Layer → World → ℕ × Document → ℕ × Document → Place → List Problem
-place_problems layer world top e p =
+abbrev pub place_problems : Layer → Further → World → ℕ × Document → ℕ × Document → Place
+    → List Problem
+place_problems layer further world top e p =
     flat_map (shared_uri (sites_of_uris layer) (e.0, p.path)) (uris_of e.1 p)
-    ++ flat_map (reference_problems layer world top) (references p)
+    ++ flat_map (reference_problems layer further world top) (references p)
+
+-- the problems of a place that is seen: of what it refers to
+abbrev pub seen_problems : Layer → Further → World → ℕ × Document → Seen → List Problem
+seen_problems layer further world top s =
+    flat_map (reference_problems layer further world top) (references_from s.base s.value)
 
 -- a problem at a path of a document
 abbrev pub at_path : ℕ → List Part → Problem → BundleRefusal
 at_path number path problem = record { document = number; path = path; problem = problem }
 
 -- the refusals of the places of a needed document
-abbrev pub place_refusals : Layer → World → ℕ × Document → ℕ × Document → List BundleRefusal
-place_refusals layer world top e =
-    flat_map (λ p. map (at_path e.0 p.path) (place_problems layer world top e p)) (places e.1)
+abbrev pub place_refusals : Layer → Further → World → ℕ × Document → ℕ × Document
+    → List BundleRefusal
+place_refusals layer further world top e =
+    flat_map (λ p. map (at_path e.0 p.path) (place_problems layer further world top e p))
+    (places e.1)
+
+-- those of its further places
+abbrev pub seen_refusals : Layer → Further → World → ℕ × Document → Seen → List BundleRefusal
+seen_refusals layer further world top s =
+    map (at_path s.document s.path) (seen_problems layer further world top s)
+
+abbrev pub further_refusals : Layer → Further → World → ℕ × Document → ℕ → List BundleRefusal
+further_refusals layer further world top number =
+    flat_map (seen_refusals layer further world top) (further_in further number)
 
 -- a key that the definitions have already
 abbrev pub taken_key : ℕ → List ℕ → Members → ℕ × Document → List BundleRefusal
@@ -236,32 +257,35 @@ map_refusals top keyword (Some value) es =
     option_map_or (λ ms. flat_map (taken_key top keyword ms) es) (as_object value)
     (at_path top (Key keyword ∷ []) NoMap ∷ [])
 
--- those of a root: none where no document has to be there
+-- those of a root: none where no document has to be there; and where it is no object, it has no place for them
 abbrev pub root_refusals : ℕ × Document → List (ℕ × Document) → List BundleRefusal
 root_refusals top [] = []
 root_refusals top (e ∷ es) =
     let keyword =
-    definitions_keyword top.1.draft in map_refusals top.0 keyword (get keyword top.1.tree)
-    (e ∷ es)
+    definitions_keyword top.1.draft in if is_object top.1.tree then
+    map_refusals top.0 keyword (get keyword top.1.tree) (e ∷ es)
+    else at_path top.0 [] (NotEmbedded NotAnObject) ∷ []
 
--- the refusals of a needed document: as a whole, then of its places
-abbrev pub refusals_in : Layer → World → ℕ × Document → List (ℕ × Document) → ℕ × Document
-    → List BundleRefusal
-refusals_in layer world top es e =
+-- the refusals of a needed document: as a whole, then of its places, and of further ones
+abbrev pub refusals_in : Layer → Further → World → ℕ × Document → List (ℕ × Document)
+    → ℕ × Document → List BundleRefusal
+refusals_in layer further world top es e =
     (if e.0 == top.0 then root_refusals top es
     else map (λ o. at_path e.0 [] (NotEmbedded o)) (option_to_list (obstacle top.1 e.1)))
-    ++ place_refusals layer world top e
+    ++ place_refusals layer further world top e ++ further_refusals layer further world top e.0
 
 -- all of them, in the order of documents and places
-abbrev pub refusals : Layer → World → ℕ × Document → List (ℕ × Document) → List BundleRefusal
-refusals layer world top es =
-    flat_map (refusals_in layer world top es) (needed_documents layer top.0)
+abbrev pub refusals : Layer → Further → World → ℕ × Document → List (ℕ × Document)
+    → List BundleRefusal
+refusals layer further world top es =
+    flat_map (refusals_in layer further world top es) (needed_documents layer further top.0)
 
 -- ---- the bundle
 
 -- the documents that have to be under the definitions of a root, in the order of documents
-abbrev pub to_embed : Layer → ℕ → List (ℕ × Document)
-to_embed layer top = filter (λ e. not (e.0 == top)) (needed_documents layer top)
+abbrev pub to_embed : Layer → Further → ℕ → List (ℕ × Document)
+to_embed layer further top =
+    filter (λ e. not (e.0 == top)) (needed_documents layer further top)
 
 -- the first refusal, or else the bundle
 abbrev pub unless_refused : List BundleRefusal → Bundle → Result Bundle BundleRefusal
@@ -274,14 +298,18 @@ bundle_of top es =
     record { value = tree_with top es; embedded = map (embedded_document top.draft) es }
 
 -- the bundle of a document, by its number among the own documents of a world, or why there is none
-abbrev pub bundle_among : Layer → World → ℕ → Result Bundle BundleRefusal
-bundle_among layer world number =
+abbrev pub bundle_among : Layer → Further → World → ℕ → Result Bundle BundleRefusal
+bundle_among layer further world number =
     option_map_or
-    (λ top. let es = to_embed layer number in unless_refused (refusals layer world (number, top) es)
-    (bundle_of top es))
+    (λ top. let es = to_embed layer further number in unless_refused
+    (refusals layer further world (number, top) es) (bundle_of top es))
     (slice_get layer number)
     (Err (at_path number [] NoDocument))
 
 -- the same of a world
+abbrev pub bundle_with : World → Further → ℕ → Result Bundle BundleRefusal
+bundle_with world further number = bundle_among (local_documents world) further world number
+
+-- and without further places
 abbrev pub bundle_at : World → ℕ → Result Bundle BundleRefusal
-bundle_at world number = bundle_among (local_documents world) world number
+bundle_at world number = bundle_with world [] number

@@ -1,10 +1,11 @@
 -- Which of a registry's own documents a bundle needs (2020-12 Core, 9.3).
-use Rattle.std.specs.Prelude.{ℕ, zero, suc, ◌==◌, Bool, ◌||◌, List, [], ◌∷◌, ◌++◌, flat_map, map, filter, length, codes, slice_get, Option, option_map, option_and_then, Result, Ok, Err}
+use Rattle.std.specs.Prelude.{ℕ, zero, suc, ◌==◌, Bool, ◌||◌, List, [], ◌∷◌, ◌++◌, flat_map, map, filter, length, codes, slice_get, Option, option_map, option_and_then, unwrap_or, Result, Ok, Err}
 use Rattle.std.specs.List.{list_any}
 use Rattle.std.specs.Option.{option_map_or, option_to_list}
 use Rattle.std.specs.Result.{result_ok}
 use Rattle.serde_json.specs.Data.{Data}
 use Rattle.ref_paths.specs.Path.{Part}
+use Rattle.ref_draft.specs.declared.draft.Draft.{Draft}
 use Rattle.ref_draft.specs.Schema.{text_under}
 use Rattle.ref_uri.specs.Targets.{Refusal, target, fragment_part}
 use Rattle.ref_definitions.specs.World.{Document, Layer}
@@ -81,9 +82,38 @@ abbrev pub referred_in : Layer → Document → List ℕ
 referred_in layer d =
     flat_map (λ uri. option_to_list (document_under layer uri)) (flat_map targets (places d))
 
+-- a place that is seen: the number of its document, its path and value there, its draft and its base
+pub record Seen : Type 0 where
+  pub document : ℕ
+  pub path : List Part
+  pub value : Data
+  pub draft : Draft
+  pub base : Result (List ℕ) Refusal
+
+-- Further places of documents, in the order of documents: what references lead to where no keyword does, as definitions in
+-- groups. Their identifiers name nothing.
+abbrev pub Further : Type 0
+Further = List (List Seen)
+
+-- those of the document with a number
+abbrev pub further_in : Further → ℕ → List Seen
+further_in further number = unwrap_or (slice_get further number) []
+
+-- the documents that seen places refer to
+abbrev pub referred_by_seen : Layer → List Seen → List ℕ
+referred_by_seen layer seen =
+    flat_map (λ uri. option_to_list (document_under layer uri))
+    (flat_map (λ s. targets_from s.base s.value) seen)
+
+-- the documents that a document refers to, by its places and by further ones
+abbrev pub referred_of : Layer → Further → ℕ × Document → List ℕ
+referred_of layer further e =
+    referred_in layer e.1 ++ referred_by_seen layer (further_in further e.0)
+
 -- the same of the document with a number
-abbrev pub referred_from : Layer → ℕ → List ℕ
-referred_from layer number = option_map_or (referred_in layer) (slice_get layer number) []
+abbrev pub referred_from : Layer → Further → ℕ → List ℕ
+referred_from layer further number =
+    option_map_or (λ d. referred_of layer further (number, d)) (slice_get layer number) []
 
 -- whether a number is one of a list
 abbrev pub is_among : List ℕ → ℕ → Bool
@@ -94,25 +124,25 @@ abbrev pub numbers : Layer → List ℕ
 numbers layer = map (λ e. e.0) (counted_documents 0 layer)
 
 -- some documents, and those that they refer to, in the order of documents
-abbrev pub with_referred : Layer → List ℕ → List ℕ
-with_referred layer some =
-    let more = flat_map (referred_from layer) some in filter
+abbrev pub with_referred : Layer → Further → List ℕ → List ℕ
+with_referred layer further some =
+    let more = flat_map (referred_from layer further) some in filter
     (λ n. is_among some n || is_among more n) (numbers layer)
 
 -- the same again and again
-abbrev pub reached_documents : Layer → ℕ → List ℕ → List ℕ
-reached_documents layer zero some = some
-reached_documents layer (suc rounds) some =
-    reached_documents layer rounds (with_referred layer some)
+abbrev pub reached_documents : Layer → Further → ℕ → List ℕ → List ℕ
+reached_documents layer further zero some = some
+reached_documents layer further (suc rounds) some =
+    reached_documents layer further rounds (with_referred layer further some)
 
 -- The documents that a bundle of a root needs, in the order of documents: the root, and again and again those that needed ones
 -- refer to. As many rounds as there are documents reach all of them.
-abbrev pub numbers_of_needed : Layer → ℕ → List ℕ
-numbers_of_needed layer root =
-    reached_documents layer (length layer) (filter (λ n. n == root) (numbers layer))
+abbrev pub numbers_of_needed : Layer → Further → ℕ → List ℕ
+numbers_of_needed layer further root =
+    reached_documents layer further (length layer) (filter (λ n. n == root) (numbers layer))
 
 -- those documents with their numbers
-abbrev pub needed_documents : Layer → ℕ → List (ℕ × Document)
-needed_documents layer root =
-    let some = numbers_of_needed layer root in filter (λ e. is_among some e.0)
+abbrev pub needed_documents : Layer → Further → ℕ → List (ℕ × Document)
+needed_documents layer further root =
+    let some = numbers_of_needed layer further root in filter (λ e. is_among some e.0)
     (counted_documents 0 layer)

@@ -1,11 +1,14 @@
--- What the program's bundles and errors say, and how refusals are displayed.
-use Rattle.std.specs.Prelude.{◌≡◌, ℕ, List, ◌++◌, codes, decimal, string_bytes, map, option_map, Result, Err, ⊤}
+-- What the program's places, bundles and errors say, and how refusals are displayed.
+use Rattle.std.specs.Prelude.{◌≡◌, ℕ, List, ◌++◌, codes, decimal, string_bytes, map, option_map, Result, Ok, Err, ⊤, Vec}
+use Rattle.std.specs.declared.alloc.Global.{Global}
 use Rattle.serde_json.specs.View.{view}
 use Rattle.ref_paths.specs.Segment.{part_of}
+use Rattle.ref_bundle.specs.Needed.{Seen, Further}
 use Rattle.ref_bundle.specs.Embedding as embedding
 use Rattle.ref_bundle.specs.Embedding.{Obstacle}
 use Rattle.ref_bundle.specs.Bundle as bundle
 use Rattle.ref_bundle.specs.Bundle.{Bundle, BundleRefusal, Problem, Embedded}
+use Rattle.ref_bundle.specs.declared.own.Spot as rust_spot
 use Rattle.ref_bundle.specs.declared.bundled.Bundle as rust_bundle
 use Rattle.ref_bundle.specs.declared.bundled.Embedded as rust_embedded
 use Rattle.ref_bundle.specs.declared.error.Obstacle as rust_obstacle
@@ -15,6 +18,25 @@ use Rattle.ref_bundle.specs.declared.error.Problem.TheVariants as problems
 use Rattle.ref_bundle.specs.declared.error.Refusal as rust_refusal
 use Rattle.ref_bundle.specs.declared.error.BundleError as rust_error
 use Rattle.ref_bundle.specs.declared.error.BundleError.TheVariants as errors
+
+-- ---- places
+
+-- a place of the program as it is seen
+abbrev pub seen_spot : rust_spot.Spot → Seen
+seen_spot s =
+    record {
+      document = s.document;
+      path = map part_of s.path.items;
+      value = view s.value.now;
+      draft = s.draft;
+      base = Ok s.base.value;
+    }
+
+-- further places of the program
+abbrev pub further_of : List (Vec rust_spot.Spot Global) → Further
+further_of further = map (λ spots. map seen_spot spots.items) further
+
+-- ---- bundles and errors
 
 -- why a document can't be embedded
 abbrev pub obstacle_said : rust_obstacle.Obstacle → Obstacle

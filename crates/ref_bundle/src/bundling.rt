@@ -1,19 +1,19 @@
 //! The bundle of a document with those that it needs.
 ghost use Rattle.std.specs.Prelude.{◌≡◌, ◌==◌, ◌&&◌, [], ◌∷◌, ◌++◌, OnOk, map, slice_get, Some, filter, not, IfOk, IfErr, Ok};
 ghost use Rattle.std.specs.List.{AllByRecursion};
-ghost use Rattle.ref_bundle.specs.Bundle.{embedded_document, bundle_among, bundle_at, bundle_of};
-ghost use Rattle.ref_bundle.specs.Saying.{embedded_said, bundle_said, IsRefusalOf};
+ghost use Rattle.ref_bundle.specs.Bundle.{embedded_document, bundle_among, bundle_at, bundle_with, bundle_of};
+ghost use Rattle.ref_bundle.specs.Saying.{embedded_said, bundle_said, further_of, IsRefusalOf};
 ghost use Rattle.ref_bundle.specs.inner.Reach.{is_marked, IsReach};
 ghost use Rattle.ref_bundle.specs.inner.Seen.{numbered_document, layer_in, part_document, numbered_part, HasPlaces, AreOwn};
 ghost use Rattle.ref_bundle.specs.inner.Seen.{HasBase};
 ghost use Rattle.ref_bundle.specs.inner.Tables.{AreTables};
-ghost use Rattle.ref_bundle.specs.Needed.{referred_in};
+ghost use Rattle.ref_bundle.specs.Needed.{counted_documents, referred_of};
 
 use crate::among::Among;
 use crate::bundled::{Bundle, Embedded};
 use crate::embedding::{Part, added_schema, part_of, tree_with};
 use crate::error::{BundleError, Problem};
-use crate::own::{Own, owns_of};
+use crate::own::{Own, Spot, owns_of};
 use crate::reach::{all_referred, reach};
 use crate::refusing::{at_root, first_refusal, is_marked};
 use crate::tables::{Bearers, bearers_of};
@@ -114,10 +114,11 @@ fn bundle_of(alloc: Global, top: &Part<'_>, parts: &[Part<'_>]) -> Result<Bundle
 }
 
 // The bundle of a root among documents, which have URIs and are needed so.
-fn bundle_with<'r>(
+fn bundle_needed<'r>(
     alloc: Global,
     bearers: &Bearers<'r, '_>,
     owns: &[Own<'r>],
+    further: &[Vec<Spot<'r>>],
     needed: &[bool],
     top: &Own<'r>,
 ) -> Result<Bundle, BundleError<'r>>
@@ -125,13 +126,15 @@ fn bundle_with<'r>(
     requires tables { AreTables (layer_in owns.now) bearers.now }
     requires top { slice_get owns.now top.now.number ≡ Some top.now }
     requires needed { IsReach
-        (map (referred_in (layer_in owns.now)) (layer_in owns.now)) top.now.number needed.now }
+        (map (referred_of (layer_in owns.now) (further_of further.now))
+        (counted_documents 0 (layer_in owns.now))) top.now.number needed.now }
     ensures value { IfOk result
-        (λ b. bundle_among (layer_in owns.now) bearers.now.registry.now top.now.number
-        ≡ Ok (bundle_said b)) }
+        (λ b. bundle_among (layer_in owns.now) (further_of further.now) bearers.now.registry.now
+        top.now.number ≡ Ok (bundle_said b)) }
     ensures fault { IfErr result
         (IsRefusalOf
-        (bundle_among (layer_in owns.now) bearers.now.registry.now top.now.number)) }
+        (bundle_among (layer_in owns.now) (further_of further.now) bearers.now.registry.now
+        top.now.number)) }
 {
     let parts = parts_of(alloc, owns, needed, top.number)?;
     let top = part_of(alloc, top)?;
@@ -139,6 +142,7 @@ fn bundle_with<'r>(
     let among = Among {
         bearers,
         owns,
+        further,
         needed,
         top: &top,
         parts: embedded,
@@ -154,20 +158,22 @@ fn bundle_among<'r>(
     alloc: Global,
     registry: &'r Registry<'_>,
     owns: &[Own<'r>],
+    further: &[Vec<Spot<'r>>],
     top: &Own<'r>,
 ) -> Result<Bundle, BundleError<'r>>
     requires own { AreOwn owns.now }
     requires top { slice_get owns.now top.now.number ≡ Some top.now }
     ensures value { IfOk result
-        (λ b. bundle_among (layer_in owns.now) registry.now top.now.number
+        (λ b. bundle_among (layer_in owns.now) (further_of further.now) registry.now top.now.number
         ≡ Ok (bundle_said b)) }
     ensures fault { IfErr result
-        (IsRefusalOf (bundle_among (layer_in owns.now) registry.now top.now.number)) }
+        (IsRefusalOf
+        (bundle_among (layer_in owns.now) (further_of further.now) registry.now top.now.number)) }
 {
     let bearers = bearers_of(alloc, registry, owns)?;
-    let lists = all_referred(alloc, &bearers, owns)?;
+    let lists = all_referred(alloc, &bearers, owns, further)?;
     let needed = reach(alloc, lists.as_slice(), top.number)?;
-    bundle_with(alloc, &bearers, owns, needed.as_slice(), top)
+    bundle_needed(alloc, &bearers, owns, further, needed.as_slice(), top)
 }
 
 /// One document in place of those that an own document of a registry needs, which is counted from 0 in the order in which
@@ -191,9 +197,27 @@ pub fn bundle<'r>(
     ensures value { IfOk result (λ b. bundle_at registry.now root ≡ Ok (bundle_said b)) }
     ensures fault { IfErr result (IsRefusalOf (bundle_at registry.now root)) }
 {
+    bundle_with(alloc, registry, &[], root)
+}
+
+/// The same, where documents have further places: what references lead to where no keyword does, as definitions in groups.
+/// The list at a number has those of the document with that number, and none has a number beyond; `ref_further` finds them.
+/// What a further place of a needed document refers to is needed too, and may refuse as another place's reference does. Its
+/// identifier names nothing. Costs as [`bundle`], with these places visited once more.
+pub fn bundle_with<'r>(
+    alloc: Global,
+    registry: &'r Registry<'_>,
+    further: &[Vec<Spot<'r>>],
+    root: usize,
+) -> Result<Bundle, BundleError<'r>>
+    ensures value { IfOk result
+        (λ b. bundle_with registry.now (further_of further.now) root ≡ Ok (bundle_said b)) }
+    ensures fault { IfErr result
+        (IsRefusalOf (bundle_with registry.now (further_of further.now) root)) }
+{
     let owns = owns_of(alloc, registry)?;
     match owns.get(root) {
-        Some(top) => bundle_among(alloc, registry, owns.as_slice(), top),
+        Some(top) => bundle_among(alloc, registry, owns.as_slice(), further, top),
         None => Err(BundleError::Refused(at_root(alloc, root, Problem::NoDocument))),
     }
 }

@@ -29,7 +29,7 @@ pub enum Obstacle {
 pub enum Problem<'r> {
     /// There is no document with the root's number.
     NoDocument,
-    /// The document, which is needed, can't be part of a bundle.
+    /// The document, which is needed, can't be part of a bundle, or is a root that can't have others, since it is no object.
     NotEmbedded(Obstacle),
     /// What the root has here, under the keyword of definitions, is no object.
     NoMap,

@@ -21,5 +21,6 @@ mod tables;
 mod uris;
 
 pub use bundled::{Bundle, Embedded};
-pub use bundling::bundle;
+pub use bundling::{bundle, bundle_with};
 pub use error::{BundleError, Obstacle, Problem, Refusal};
+pub use own::Spot;

@@ -10,7 +10,8 @@ ghost use Rattle.ref_paths.specs.Path.{value_at};
 ghost use Rattle.referencing.specs.ListedPlaces.{listed_of};
 ghost use Rattle.ref_bundle.specs.Needed.{counted_documents};
 ghost use Rattle.ref_bundle.specs.declared.own.Own.{Own};
-ghost use Rattle.ref_bundle.specs.inner.Seen.{seen_spot, seen_in, see_listed, put_last, put_place, gathered_places};
+ghost use Rattle.ref_bundle.specs.inner.Seen.{seen_in, see_listed, put_last, put_place, gathered_places};
+ghost use Rattle.ref_bundle.specs.Saying.{seen_spot};
 ghost use Rattle.ref_bundle.specs.inner.Seen.{numbered_document, HasPlaces};
 
 use referencing::{Document, Draft, JsonPointerSegment, Place, Registry, Uri};
@@ -20,11 +21,16 @@ use std::rc::Rc;
 
 /// A place of a schema, with its value.
 #[derive(Drop)]
-pub(crate) struct Spot<'r> {
+pub struct Spot<'r> {
+    /// The number of its document in the registry, counted from 0.
     pub document: usize,
+    /// Its path in the document.
     pub path: Vec<JsonPointerSegment<'r>>,
+    /// Its value, which is the document's own.
     pub value: &'r Value,
+    /// The draft that it is read by.
     pub draft: Draft,
+    /// The base URI that its references are resolved against.
     pub base: Rc<Uri>,
 }
 

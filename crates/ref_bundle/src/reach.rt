@@ -2,8 +2,9 @@
 ghost use Rattle.std.specs.Prelude.{◌≡◌, ℕ, [], ◌++◌, map, flat_map, length, false, IfOk, OnOk};
 ghost use Rattle.std.specs.Option.{option_to_list};
 ghost use Rattle.ref_definitions.specs.World.{Layer};
-ghost use Rattle.ref_bundle.specs.Needed.{document_under, targets_from, referred_in};
-ghost use Rattle.ref_bundle.specs.inner.Seen.{seen_spot, layer_in, AreOwn};
+ghost use Rattle.ref_bundle.specs.Needed.{document_under, targets_from, counted_documents, referred_by_seen, referred_of};
+ghost use Rattle.ref_bundle.specs.inner.Seen.{layer_in, numbered_document, HasPlaces, AreOwn};
+ghost use Rattle.ref_bundle.specs.Saying.{seen_spot, further_of};
 ghost use Rattle.ref_bundle.specs.inner.Tables.{AreTables};
 ghost use Rattle.ref_bundle.specs.inner.Reach.{state, is_marked, added_document, all_added, list_at, IsReach};
 
@@ -37,10 +38,9 @@ fn referred(
     bearers: &Bearers<'_, '_>,
     places: &[Spot<'_>],
 ) -> Result<Vec<usize>, AllocError>
-    ensures { (layer : Layer) → AreTables layer bearers.now → IfOk result (λ numbers. numbers.items
-        ≡ flat_map (λ uri. option_to_list (document_under layer uri))
-        (flat_map (λ s. targets_from s.base s.value)
-        (map seen_spot places.now))) }
+    ensures { (layer : Layer) → AreTables layer bearers.now
+        → IfOk result
+        (λ numbers. numbers.items ≡ referred_by_seen layer (map seen_spot places.now)) }
 {
     let mut numbers = Vec::new(alloc);
     for spot in places {
@@ -50,20 +50,45 @@ fn referred(
     Ok(numbers)
 }
 
+// The documents that a document refers to, by its places and by further ones.
+fn referred_of(
+    alloc: Global,
+    bearers: &Bearers<'_, '_>,
+    own: &Own<'_>,
+    further: &[Vec<Spot<'_>>],
+) -> Result<Vec<usize>, AllocError>
+    requires { HasPlaces own.now }
+    ensures { (layer : Layer) → AreTables layer bearers.now
+        → IfOk result
+        (λ numbers. numbers.items
+        ≡ referred_of layer (further_of further.now) (numbered_document own.now)) }
+{
+    let mut numbers = referred(alloc, bearers, own.places.as_slice())?;
+    let Some(spots) = further.get(own.number) else {
+        return Ok(numbers);
+    };
+    let mut more = referred(alloc, bearers, spots.as_slice())?;
+    numbers.append(&mut more)?;
+    Ok(numbers)
+}
+
 /// The documents that each document refers to.
 pub(crate) fn all_referred(
     alloc: Global,
     bearers: &Bearers<'_, '_>,
     owns: &[Own<'_>],
+    further: &[Vec<Spot<'_>>],
 ) -> Result<Vec<Vec<usize>>, AllocError>
     requires own { AreOwn owns.now }
     requires tables { AreTables (layer_in owns.now) bearers.now }
-    ensures value { IfOk result (λ lists. map (λ l. l.items) lists.items
-        ≡ map (referred_in (layer_in owns.now)) (layer_in owns.now)) }
+    ensures value { IfOk result
+        (λ lists. map (λ l. l.items) lists.items
+        ≡ map (referred_of (layer_in owns.now) (further_of further.now))
+        (counted_documents 0 (layer_in owns.now))) }
 {
     let mut lists = Vec::with_capacity(alloc, owns.len())?;
     for own in owns {
-        lists.push(referred(alloc, bearers, own.places.as_slice())?)?;
+        lists.push(referred_of(alloc, bearers, own, further)?)?;
     }
     Ok(lists)
 }

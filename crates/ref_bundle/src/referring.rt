@@ -6,14 +6,13 @@ ghost use Rattle.ref_definitions.specs.World.{Layer};
 ghost use Rattle.ref_bundle.specs.Needed.{site_under};
 ghost use Rattle.ref_bundle.specs.Embedding.{has_other_identifier, is_added_under};
 ghost use Rattle.ref_bundle.specs.Bundle as bundle;
-ghost use Rattle.ref_bundle.specs.Bundle.{replaced_in, shadowed_uri, added_in, embedded_problems, reference_problems};
+ghost use Rattle.ref_bundle.specs.Bundle.{replaced_in, shadowed_uri, added_in, embedded_problems, reference_problems, seen_problems};
 ghost use Rattle.ref_bundle.specs.Bundle.{is_embedded_as, is_added_definition, added_definition, root_problems};
-ghost use Rattle.ref_bundle.specs.Saying.{problem_said};
-ghost use Rattle.ref_bundle.specs.inner.Seen.{seen_spot, seen_reference, document_in, part_document};
-ghost use Rattle.ref_bundle.specs.inner.Among.{AreAmong, layer_of, world_of, root_of, SaysFirst};
+ghost use Rattle.ref_bundle.specs.Saying.{problem_said, seen_spot};
+ghost use Rattle.ref_bundle.specs.inner.Seen.{seen_reference, document_in, part_document};
+ghost use Rattle.ref_bundle.specs.inner.Among.{AreAmong, layer_of, further_among, world_of, root_of, SaysFirst};
 ghost use Rattle.ref_bundle.specs.inner.Seen.{HasPlaces, HasBase};
 ghost use Rattle.ref_bundle.specs.inner.Tables.{AreTables};
-ghost use Rattle.ref_bundle.specs.inner.First.{references_seen};
 
 use crate::among::Among;
 use crate::embedding::{Part, added_schema, definitions_keyword, part_of};
@@ -199,7 +198,8 @@ fn is_embedded_as(
     requires { AreAmong among.now }
     ensures { IfOk result
         (λ is. is
-        ≡ is_embedded_as (layer_of among.now) among.now.top.now.number uri.now number) }
+        ≡ is_embedded_as (layer_of among.now) (further_among among.now) among.now.top.now.number
+        uri.now number) }
 {
     if number == among.top.number || !is_marked(among.needed, number) {
         return Ok(false);
@@ -219,7 +219,8 @@ fn is_added_definition(
     requires { AreAmong among.now }
     ensures { IfOk result
         (λ is. is
-        ≡ is_added_definition (layer_of among.now) among.now.top.now.number key.now) }
+        ≡ is_added_definition (layer_of among.now) (further_among among.now)
+        among.now.top.now.number key.now) }
 {
     match among.bearers.document_under(key) {
         Some(number) => is_embedded_as(alloc, among, key, number),
@@ -235,7 +236,7 @@ fn added_definition<'r>(
 ) -> Result<Option<Problem<'r>>, AllocError>
     requires { AreAmong among.now }
     ensures { SaysFirst result
-        (added_definition (layer_of among.now) (root_of among.now)
+        (added_definition (layer_of among.now) (further_among among.now) (root_of among.now)
         (seen_reference reference.now)) }
 {
     let keyword = definitions_keyword(among.top.draft);
@@ -257,8 +258,8 @@ fn root_problem<'r>(
 ) -> Result<Option<Problem<'r>>, AllocError>
     requires { AreAmong among.now }
     ensures { SaysFirst result
-        (root_problems (layer_of among.now) (root_of among.now) (seen_reference reference.now)
-        (map part_of path.now)) }
+        (root_problems (layer_of among.now) (further_among among.now) (root_of among.now)
+        (seen_reference reference.now) (map part_of path.now)) }
 {
     if path.is_empty() {
         return added_definition(alloc, among, reference);
@@ -274,7 +275,8 @@ fn reference_problem<'r>(
 ) -> Result<Option<Problem<'r>>, AllocError>
     requires { AreAmong among.now }
     ensures { SaysFirst result
-        (reference_problems (layer_of among.now) (world_of among.now) (root_of among.now)
+        (reference_problems (layer_of among.now) (further_among among.now) (world_of among.now)
+        (root_of among.now)
         (seen_reference reference.now)) }
 {
     let Some(site) = among.bearers.site_under(reference.uri.as_str()) else {
@@ -298,7 +300,8 @@ pub(crate) fn reference_problems<'r>(
 ) -> Result<Option<Problem<'r>>, AllocError>
     requires { AreAmong among.now }
     ensures value { SaysFirst result
-        (references_seen (layer_of among.now) (world_of among.now) (root_of among.now)
+        (seen_problems (layer_of among.now) (further_among among.now) (world_of among.now)
+        (root_of among.now)
         (seen_spot spot.now)) }
 {
     let references = references(alloc, spot)?;

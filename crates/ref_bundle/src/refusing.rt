@@ -9,19 +9,19 @@ ghost use Rattle.ref_definitions.specs.World.{Layer};
 ghost use Rattle.ref_bundle.specs.Embedding.{obstacle};
 ghost use Rattle.ref_bundle.specs.Bundle as bundle;
 ghost use Rattle.ref_bundle.specs.Needed.{sites_of_uris};
-ghost use Rattle.ref_bundle.specs.Bundle.{at_path, shared_uri, place_refusals};
+ghost use Rattle.ref_bundle.specs.Bundle.{at_path, shared_uri, place_refusals, seen_problems, seen_refusals, further_refusals};
 ghost use Rattle.ref_bundle.specs.Bundle.{map_refusals, root_refusals, refusals_in};
-ghost use Rattle.ref_bundle.specs.Saying.{problem_said, refusal_said};
+ghost use Rattle.ref_bundle.specs.Saying.{problem_said, refusal_said, seen_spot};
 ghost use Rattle.ref_bundle.specs.inner.Reach.{is_marked};
-ghost use Rattle.ref_bundle.specs.inner.Seen.{seen_spot, own_uri_of, numbered_document, document_in, part_document};
-ghost use Rattle.ref_bundle.specs.inner.Among.{AreAmong, layer_of, world_of, root_of, parts_of, SaysFirst, RefusesFirst};
+ghost use Rattle.ref_bundle.specs.inner.Seen.{own_uri_of, numbered_document, document_in, part_document};
+ghost use Rattle.ref_bundle.specs.inner.Among.{AreAmong, layer_of, further_among, world_of, root_of, parts_of, SaysFirst, RefusesFirst};
 ghost use Rattle.ref_bundle.specs.inner.Seen.{numbered_part, HasPlaces, HasBase};
 ghost use Rattle.ref_bundle.specs.inner.Tables.{AreTables};
-ghost use Rattle.ref_bundle.specs.inner.First.{shared_seen, references_seen, refusals_seen, taken_in, whole_refusals};
+ghost use Rattle.ref_bundle.specs.inner.First.{shared_seen, refusals_seen, taken_in, whole_refusals};
 
 use crate::among::Among;
 use crate::embedding::{Part, definitions_keyword, obstacle, part_of};
-use crate::error::{Problem, Refusal};
+use crate::error::{Obstacle, Problem, Refusal};
 use crate::first::first_found;
 use crate::own::{Own, Spot};
 use crate::referring::reference_problems;
@@ -119,8 +119,8 @@ fn place_problem<'r>(
     requires { AreAmong among.now }
     ensures { SaysFirst result
         (shared_seen (layer_of among.now) own.now.uri.now (seen_spot spot.now)
-        ++ references_seen (layer_of among.now) (world_of among.now) (root_of among.now)
-        (seen_spot spot.now)) }
+        ++ seen_problems (layer_of among.now) (further_among among.now) (world_of among.now)
+        (root_of among.now) (seen_spot spot.now)) }
 {
     first_found(
         shared_uris(alloc, among.bearers, own, spot),
@@ -154,9 +154,8 @@ fn place_refusal<'r>(
 ) -> Result<Option<Refusal<'r>>, AllocError>
     requires { AreAmong among.now }
     ensures { RefusesFirst result
-        (refusals_seen (layer_of among.now) (world_of among.now) (root_of among.now)
-        own.now.uri.now
-        (seen_spot spot.now)) }
+        (refusals_seen (layer_of among.now) (further_among among.now) (world_of among.now)
+        (root_of among.now) own.now.uri.now (seen_spot spot.now)) }
 {
     match place_problem(alloc, among, own, spot)? {
         Some(problem) => Ok(Some(at_place(alloc, spot, problem)?)),
@@ -173,11 +172,50 @@ fn places_refusal<'r>(
     requires among { AreAmong among.now }
     requires places { HasPlaces own.now }
     ensures { RefusesFirst result
-        (place_refusals (layer_of among.now) (world_of among.now) (root_of among.now)
-        (numbered_document own.now)) }
+        (place_refusals (layer_of among.now) (further_among among.now) (world_of among.now)
+        (root_of among.now) (numbered_document own.now)) }
 {
     for spot in &own.places {
         if let Some(refusal) = place_refusal(alloc, among, own, spot)? {
+            return Ok(Some(refusal));
+        }
+    }
+    Ok(None)
+}
+
+// The refusal of a further place.
+fn seen_refusal<'r>(
+    alloc: Global,
+    among: &Among<'_, 'r, '_>,
+    spot: &Spot<'r>,
+) -> Result<Option<Refusal<'r>>, AllocError>
+    requires { AreAmong among.now }
+    ensures { RefusesFirst result
+        (seen_refusals (layer_of among.now) (further_among among.now) (world_of among.now)
+        (root_of among.now) (seen_spot spot.now)) }
+{
+    match reference_problems(alloc, among, spot)? {
+        Some(problem) => Ok(Some(at_place(alloc, spot, problem)?)),
+        None => Ok(None),
+    }
+}
+
+// The first refusal of the further places of the document with a number.
+fn further_refusal<'r>(
+    alloc: Global,
+    among: &Among<'_, 'r, '_>,
+    number: usize,
+) -> Result<Option<Refusal<'r>>, AllocError>
+    requires { AreAmong among.now }
+    ensures { RefusesFirst result
+        (further_refusals (layer_of among.now) (further_among among.now) (world_of among.now)
+        (root_of among.now) number) }
+{
+    let Some(spots) = among.further.get(number) else {
+        return Ok(None);
+    };
+    for spot in spots {
+        if let Some(refusal) = seen_refusal(alloc, among, spot)? {
             return Ok(Some(refusal));
         }
     }
@@ -304,6 +342,10 @@ fn root_refusal<'r>(
     if parts.is_empty() {
         return Ok(None);
     }
+    if !top.tree.is_object() {
+        let problem = Problem::NotEmbedded(Obstacle::NotAnObject);
+        return Ok(Some(at_root(alloc, top.number, problem)));
+    }
     let keyword = definitions_keyword(top.draft);
     map_refusal(alloc, top.number, keyword, top.tree.get(keyword), parts)
 }
@@ -358,13 +400,14 @@ fn refusal_in<'r>(
     requires among { AreAmong among.now }
     requires places { HasPlaces own.now }
     ensures { RefusesFirst result
-        (refusals_in (layer_of among.now) (world_of among.now) (root_of among.now)
-        (parts_of among.now) (numbered_document own.now)) }
+        (refusals_in (layer_of among.now) (further_among among.now) (world_of among.now)
+        (root_of among.now) (parts_of among.now) (numbered_document own.now)) }
 {
-    first_found(
+    let own_refusal = first_found(
         whole_refusal(alloc, among.top, among.parts, own),
         places_refusal(alloc, among, own),
-    )
+    );
+    first_found(own_refusal, further_refusal(alloc, among, own.number))
 }
 
 // Whether a number is marked.
@@ -387,8 +430,8 @@ fn refusal_if_needed<'r>(
     requires places { HasPlaces own.now }
     ensures { RefusesFirst result
         (if is_marked among.now.needed.now own.now.number then
-        refusals_in (layer_of among.now) (world_of among.now) (root_of among.now)
-        (parts_of among.now) (numbered_document own.now) else []) }
+        refusals_in (layer_of among.now) (further_among among.now) (world_of among.now)
+        (root_of among.now) (parts_of among.now) (numbered_document own.now) else []) }
 {
     if is_marked(among.needed, own.number) {
         return refusal_in(alloc, among, own);
@@ -405,8 +448,9 @@ pub(crate) fn first_refusal<'r>(
     ensures value { RefusesFirst result
         (flat_map
         (λ e. if is_marked among.now.needed.now e.0 then
-        refusals_in (layer_of among.now) (world_of among.now) (root_of among.now)
-        (parts_of among.now) e else []) (map numbered_document among.now.owns.now)) }
+        refusals_in (layer_of among.now) (further_among among.now) (world_of among.now)
+        (root_of among.now) (parts_of among.now) e else [])
+        (map numbered_document among.now.owns.now)) }
 {
     for own in among.owns {
         if let Some(refusal) = refusal_if_needed(alloc, among, own)? {

@@ -6,7 +6,8 @@ ghost use Rattle.ref_paths.specs.Segment.{part_of};
 ghost use Rattle.ref_definitions.specs.World.{Layer};
 ghost use Rattle.ref_bundle.specs.Needed.{borne_in, sites_of_uris, site_under, document_under};
 ghost use Rattle.ref_bundle.specs.Bundle.{is_site, other_bearer};
-ghost use Rattle.ref_bundle.specs.inner.Seen.{seen_spot, numbered_document, layer_in, HasPlaces, AreOwn};
+ghost use Rattle.ref_bundle.specs.inner.Seen.{numbered_document, layer_in, HasPlaces, AreOwn};
+ghost use Rattle.ref_bundle.specs.Saying.{seen_spot};
 ghost use Rattle.ref_bundle.specs.inner.Tables.{site_of, table_of, entry_under, is_other, is_other_in};
 ghost use Rattle.ref_bundle.specs.inner.Tables.{AreTables, borne_at};
 

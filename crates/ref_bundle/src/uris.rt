@@ -10,7 +10,8 @@ ghost use Rattle.ref_definitions.specs.Wants.{schema_at};
 ghost use Rattle.ref_bundle.specs.Needed.{reference_of, reference_under, meta_schema_of, references_from, targets_from};
 ghost use Rattle.ref_bundle.specs.Embedding.{base_uri};
 ghost use Rattle.ref_bundle.specs.Bundle.{identified_from};
-ghost use Rattle.ref_bundle.specs.inner.Seen.{seen_spot, seen_reference, own_uri_of, document_in, HasPlaces};
+ghost use Rattle.ref_bundle.specs.inner.Seen.{seen_reference, own_uri_of, document_in, HasPlaces};
+ghost use Rattle.ref_bundle.specs.Saying.{seen_spot};
 
 use crate::own::{Own, Spot};
 use ref_index::meanings::{dialect_in, if_meant, meta_schema_of, resolved, target_of, text_under};

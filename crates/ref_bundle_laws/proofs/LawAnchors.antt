@@ -19,7 +19,7 @@ use Rattle.ref_definitions.specs.World.{Document, Layer, World}
 use Rattle.ref_definitions.specs.Places.{Place, root, identifier_of, places}
 use Rattle.ref_definitions.specs.Resources.{own_uri, resource_of, resources_in, resources, last_under, meant_place}
 use Rattle.ref_definitions.specs.Anchors.{Named, named_under, named_at, names_in, names, last_named, named_entry, named_by_identifier, not_named, anchor}
-use Rattle.ref_bundle.specs.Needed.{counted_documents}
+use Rattle.ref_bundle.specs.Needed.{Further, counted_documents}
 use Rattle.ref_bundle.specs.Embedding.{base_uri}
 use Rattle.ref_bundle.specs.Bundle.{uris_of, to_embed}
 use Rattle.ref_bundle_laws.specs.Kept.{place_in}
@@ -142,8 +142,8 @@ name_base d m there =
 
 -- ---- a URI that means, in the bundle, what it meant: also where it means a place of a parent
 
-pub record IsSafe (layer : Layer) (parents : World) (n : ℕ) (top : Document) (uri : List ℕ) : Type 0 where
-  pub clear : IsClear layer n top (to_embed layer n) uri
+pub record IsSafe (layer : Layer) (fs : Further) (parents : World) (n : ℕ) (top : Document) (uri : List ℕ) : Type 0 where
+  pub clear : IsClear layer n top (to_embed layer fs n) uri
   pub outside : (p : Place) (other : List ℕ) → last_under uri (resources layer) ≡ None → meant_place parents uri ≡ Some p → own_uri p ≡ Some other → last_under other (resources layer) ≡ None
 
 pub none_bear : (layer : Layer) (uri : List ℕ) → last_under uri (resources layer) ≡ None → AllByRecursion (λ e. IsFree uri e.1) (counted_documents 0 layer)
@@ -182,13 +182,13 @@ found_itself : (top : Document) (es : List (ℕ × Document)) (uri : List ℕ) (
 found_itself top es uri None = tt
 found_itself top es uri (Some m) = record { name = refl; kind = refl; place = found_same refl refl }
 
-named_found_now : (layer : Layer) (parents : World) (n : ℕ) (top : Document) (uri name : List ℕ) → IsMade layer n top → IsClear layer n top (to_embed layer n) uri
-    → BothAlike (NameFound top (to_embed layer n) uri) (named_entry ((joined top (to_embed layer n) ∷ []) ∷ parents) uri name) (named_entry (layer ∷ parents) uri name)
-named_found_now layer parents n top uri name is clear =
-    let es = to_embed layer n in
+named_found_now : (layer : Layer) (fs : Further) (parents : World) (n : ℕ) (top : Document) (uri name : List ℕ) → IsMade layer fs n top → IsClear layer n top (to_embed layer fs n) uri
+    → BothAlike (NameFound top (to_embed layer fs n) uri) (named_entry ((joined top (to_embed layer fs n) ∷ []) ∷ parents) uri name) (named_entry (layer ∷ parents) uri name)
+named_found_now layer fs parents n top uri name is clear =
+    let es = to_embed layer fs n in
     or_alike (NameFound top es uri) (last_named uri name (names (joined top es ∷ []))) (named_entry parents uri name) (last_named uri name (names layer)) (named_entry parents uri name)
-    (found_by top es uri name (last_named uri name (names (joined top es ∷ []))) (last_named uri name (names layer)) (all_put layer n top is) refl
-    (names_now layer n top es uri name (made_places layer n top is) (all_put layer n top is) clear))
+    (found_by top es uri name (last_named uri name (names (joined top es ∷ []))) (last_named uri name (names layer)) (all_put layer fs n top is) refl
+    (names_now layer n top es uri name (made_places layer fs n top is) (all_put layer fs n top is) clear))
     (found_itself top es uri (named_entry parents uri name))
 
 -- ---- meanings
@@ -212,12 +212,12 @@ meaning_by layer parents top es uri (Some e) (Some f) rest put now before means_
     let here : IsAt top es uri e.1 = subst (λ u. IsAt top es u e.1) own base in
     of_own e.1 f.1 refl refl (under top es uri e.1 f.1 put both.1 here) here
 
-pub meaning : (layer : Layer) (parents : World) (n : ℕ) (top : Document) (uri : List ℕ) → IsMade layer n top → IsClear layer n top (to_embed layer n) uri
-    → Meaning layer parents top (to_embed layer n) uri (meant_place ((joined top (to_embed layer n) ∷ []) ∷ parents) uri) (meant_place (layer ∷ parents) uri)
-meaning layer parents n top uri is clear =
-    let es = to_embed layer n in
-    meaning_by layer parents top es uri (last_under uri (resources (joined top es ∷ []))) (last_under uri (resources layer)) (meant_place parents uri) (all_put layer n top is) refl refl refl
-    (entries_now layer n top es uri (made_places layer n top is) (all_put layer n top is) clear)
+pub meaning : (layer : Layer) (fs : Further) (parents : World) (n : ℕ) (top : Document) (uri : List ℕ) → IsMade layer fs n top → IsClear layer n top (to_embed layer fs n) uri
+    → Meaning layer parents top (to_embed layer fs n) uri (meant_place ((joined top (to_embed layer fs n) ∷ []) ∷ parents) uri) (meant_place (layer ∷ parents) uri)
+meaning layer fs parents n top uri is clear =
+    let es = to_embed layer fs n in
+    meaning_by layer parents top es uri (last_under uri (resources (joined top es ∷ []))) (last_under uri (resources layer)) (meant_place parents uri) (all_put layer fs n top is) refl refl refl
+    (entries_now layer n top es uri (made_places layer fs n top is) (all_put layer fs n top is) clear)
 
 -- ---- names by an identifier
 
@@ -246,70 +246,70 @@ root_own_uri top es uri q p (root_under now before bears) own =
     own_uri_of q p (ap identifier_of now ∙ identifier_top top es ∙ sym (ap identifier_of before)) (ap (λ (x : Place). x.base) now ∙ same_base top es ∙ sym (ap (λ (x : Place). x.base) before))
 
 -- the root's base is none of an embedded document's
-pub top_apart : (layer : Layer) (n : ℕ) (top : Document) → IsMade layer n top → (e : ℕ × Document) → Contains (to_embed layer n) e → ¬ (base_uri e.1 ≡ base_uri top)
-top_apart layer n top is e there =
+pub top_apart : (layer : Layer) (fs : Further) (n : ℕ) (top : Document) → IsMade layer fs n top → (e : ℕ × Document) → Contains (to_embed layer fs n) e → ¬ (base_uri e.1 ≡ base_uri top)
+top_apart layer fs n top is e there =
     let own = root_counted layer n top is.at in
-    let need = embedded_needed layer n e there in
-    let at = needed_counted layer n e need.0 in
+    let need = embedded_needed layer fs n e there in
+    let at = needed_counted layer fs n e need.0 in
     let free_ = each_in (λ x. ¬ (x.0 ≡ n) → IsFree (base_uri top) x.1) (counted_documents 0 layer) e
-    (others_free layer n top is (n, top) (root top) (base_uri top) (root_needed layer (n, top) own) (0, omega arith, refl) (base_borne top (base_uri top) (root_base layer (n, top) is.no_fault own))) at need.1 in
+    (others_free layer fs n top is (n, top) (root top) (base_uri top) (root_needed layer fs (n, top) own) (0, omega arith, refl) (base_borne top (base_uri top) (root_base layer (n, top) is.no_fault own))) at need.1 in
     other_base_of (base_uri top) (base_uri e.1) (root e.1).base (root_base layer e is.no_fault at) free_.bases.0
 
-of_base : (layer : Layer) (n : ℕ) (top : Document) → IsMade layer n top → (uri other : List ℕ) → Contains (uris_of top (root top)) uri → other ≡ base_uri top → (m k : Named) → NameFound top (to_embed layer n) other m k → NameFound top (to_embed layer n) uri m k
-of_base layer n top is uri other bears own m k both = record { name = both.name; kind = both.kind; place = by_place both.place }
+of_base : (layer : Layer) (fs : Further) (n : ℕ) (top : Document) → IsMade layer fs n top → (uri other : List ℕ) → Contains (uris_of top (root top)) uri → other ≡ base_uri top → (m k : Named) → NameFound top (to_embed layer fs n) other m k → NameFound top (to_embed layer fs n) uri m k
+of_base layer fs n top is uri other bears own m k both = record { name = both.name; kind = both.kind; place = by_place both.place }
   where
-    by_place : IsFoundNow top (to_embed layer n) other m.name m.kind m.place k.place → IsFoundNow top (to_embed layer n) uri m.name m.kind m.place k.place
+    by_place : IsFoundNow top (to_embed layer fs n) other m.name m.kind m.place k.place → IsFoundNow top (to_embed layer fs n) uri m.name m.kind m.place k.place
     by_place (found_same v d) = found_same v d
-    by_place (found_embedded e there now before at anchored) = absurd (top_apart layer n top is e there (sym at ∙ own))
+    by_place (found_embedded e there now before at anchored) = absurd (top_apart layer fs n top is e there (sym at ∙ own))
     by_place (found_root now before others) = found_root now before bears
 
 -- names under the root's base, by whichever URI of the root
-by_root_base : (layer : Layer) (parents : World) (n : ℕ) (top : Document) → IsMade layer n top → (uri name : List ℕ) → Contains (uris_of top (root top)) uri → (o : Option (List ℕ)) → own_uri (root top) ≡ o
-    → BothAlike (NameFound top (to_embed layer n) uri) (option_and_then (λ own. named_entry ((joined top (to_embed layer n) ∷ []) ∷ parents) own name) o) (option_and_then (λ own. named_entry (layer ∷ parents) own name) o)
-by_root_base layer parents n top is uri name bears None own = tt
-by_root_base layer parents n top is uri name bears (Some other) own =
-    let es = to_embed layer n in
+by_root_base : (layer : Layer) (fs : Further) (parents : World) (n : ℕ) (top : Document) → IsMade layer fs n top → (uri name : List ℕ) → Contains (uris_of top (root top)) uri → (o : Option (List ℕ)) → own_uri (root top) ≡ o
+    → BothAlike (NameFound top (to_embed layer fs n) uri) (option_and_then (λ own. named_entry ((joined top (to_embed layer fs n) ∷ []) ∷ parents) own name) o) (option_and_then (λ own. named_entry (layer ∷ parents) own name) o)
+by_root_base layer fs parents n top is uri name bears None own = tt
+by_root_base layer fs parents n top is uri name bears (Some other) own =
+    let es = to_embed layer fs n in
     let root_there = root_counted layer n top is.at in
     let base : (root top).base ≡ Ok other = own_base other (root top) own in
     let same_uri : other ≡ base_uri top = sym (base_is top other base) in
-    let clear = clear_borne layer n top is (n, top) (root top) other (root_needed layer (n, top) root_there) (0, omega arith, refl) (base_borne top other base) (λ apart_ own_. absurd (apart_ refl)) in
+    let clear = clear_borne layer fs n top is (n, top) (root top) other (root_needed layer fs (n, top) root_there) (0, omega arith, refl) (base_borne top other base) (λ apart_ own_. absurd (apart_ refl)) in
     weaker (NameFound top es other) (NameFound top es uri) (named_entry ((joined top es ∷ []) ∷ parents) other name) (named_entry (layer ∷ parents) other name)
-    (of_base layer n top is uri other bears same_uri) (named_found_now layer parents n top other name is clear)
+    (of_base layer fs n top is uri other bears same_uri) (named_found_now layer fs parents n top other name is clear)
 
 -- names under a URI that no own document has are those of the parents
-parents_alone : (layer : Layer) (parents : World) (n : ℕ) (top : Document) → IsMade layer n top → (uri other name : List ℕ) → last_under other (resources layer) ≡ None
-    → BothAlike (NameFound top (to_embed layer n) uri) (named_entry ((joined top (to_embed layer n) ∷ []) ∷ parents) other name) (named_entry (layer ∷ parents) other name)
-parents_alone layer parents n top is uri other name none =
-    let es = to_embed layer n in
-    let clear = clear_free layer n top is other (none_bear layer other none) in
+parents_alone : (layer : Layer) (fs : Further) (parents : World) (n : ℕ) (top : Document) → IsMade layer fs n top → (uri other name : List ℕ) → last_under other (resources layer) ≡ None
+    → BothAlike (NameFound top (to_embed layer fs n) uri) (named_entry ((joined top (to_embed layer fs n) ∷ []) ∷ parents) other name) (named_entry (layer ∷ parents) other name)
+parents_alone layer fs parents n top is uri other name none =
+    let es = to_embed layer fs n in
+    let clear = clear_free layer fs n top is other (none_bear layer other none) in
     let was : last_named other name (names layer) ≡ None = no_names_were other name layer (none_bear layer other none) in
     let now : last_named other name (names (joined top es ∷ [])) ≡ None =
-    no_first (NameNow top es) (last_named other name (names (joined top es ∷ []))) (last_named other name (names layer)) (names_now layer n top es other name (made_places layer n top is) (all_put layer n top is) clear) was in
+    no_first (NameNow top es) (last_named other name (names (joined top es ∷ []))) (last_named other name (names layer)) (names_now layer n top es other name (made_places layer fs n top is) (all_put layer fs n top is) clear) was in
     subst (λ o. BothAlike (NameFound top es uri) (option_or o (named_entry parents other name)) (named_entry (layer ∷ parents) other name)) (sym now)
     (subst (λ o. BothAlike (NameFound top es uri) (named_entry parents other name) (option_or o (named_entry parents other name))) (sym was) (found_itself top es uri (named_entry parents other name)))
 
-by_parent : (layer : Layer) (parents : World) (n : ℕ) (top : Document) → IsMade layer n top → (uri name : List ℕ) (p : Place) (o : Option (List ℕ)) → own_uri p ≡ o → ((other : List ℕ) → own_uri p ≡ Some other → last_under other (resources layer) ≡ None)
-    → BothAlike (NameFound top (to_embed layer n) uri) (option_and_then (λ own. named_entry ((joined top (to_embed layer n) ∷ []) ∷ parents) own name) o) (option_and_then (λ own. named_entry (layer ∷ parents) own name) o)
-by_parent layer parents n top is uri name p None own outside = tt
-by_parent layer parents n top is uri name p (Some other) own outside = parents_alone layer parents n top is uri other name (outside other own)
+by_parent : (layer : Layer) (fs : Further) (parents : World) (n : ℕ) (top : Document) → IsMade layer fs n top → (uri name : List ℕ) (p : Place) (o : Option (List ℕ)) → own_uri p ≡ o → ((other : List ℕ) → own_uri p ≡ Some other → last_under other (resources layer) ≡ None)
+    → BothAlike (NameFound top (to_embed layer fs n) uri) (option_and_then (λ own. named_entry ((joined top (to_embed layer fs n) ∷ []) ∷ parents) own name) o) (option_and_then (λ own. named_entry (layer ∷ parents) own name) o)
+by_parent layer fs parents n top is uri name p None own outside = tt
+by_parent layer fs parents n top is uri name p (Some other) own outside = parents_alone layer fs parents n top is uri other name (outside other own)
 
 both_none : {X Y : Type 0} (R : X → Y → Type 0) (o : Option X) (p : Option Y) → o ≡ None → p ≡ None → BothAlike R o p
 both_none R o p first second = subst (λ x. BothAlike R x p) (sym first) (subst (λ y. BothAlike R None y) (sym second) tt)
 
 -- what the identifier of the meant place gives, where nothing is named under the URI itself
-identified_by : (layer : Layer) (parents : World) (n : ℕ) (top : Document) → IsMade layer n top → (uri name : List ℕ) (a b : Option Place) → Meaning layer parents top (to_embed layer n) uri a b
+identified_by : (layer : Layer) (fs : Further) (parents : World) (n : ℕ) (top : Document) → IsMade layer fs n top → (uri name : List ℕ) (a b : Option Place) → Meaning layer parents top (to_embed layer fs n) uri a b
     → ((p : Place) (other : List ℕ) → last_under uri (resources layer) ≡ None → meant_place parents uri ≡ Some p → own_uri p ≡ Some other → last_under other (resources layer) ≡ None)
-    → named_entry ((joined top (to_embed layer n) ∷ []) ∷ parents) uri name ≡ None → named_entry (layer ∷ parents) uri name ≡ None
-    → BothAlike (NameFound top (to_embed layer n) uri) (option_and_then (λ own. named_entry ((joined top (to_embed layer n) ∷ []) ∷ parents) own name) (option_and_then own_uri a)) (option_and_then (λ own. named_entry (layer ∷ parents) own name) (option_and_then own_uri b))
-identified_by layer parents n top is uri name a b (nothing now before) outside first second =
-    both_none (NameFound top (to_embed layer n) uri) _ _ (ap (λ x. option_and_then (λ own. named_entry ((joined top (to_embed layer n) ∷ []) ∷ parents) own name) (option_and_then own_uri x)) now) (ap (λ x. option_and_then (λ own. named_entry (layer ∷ parents) own name) (option_and_then own_uri x)) before)
-identified_by layer parents n top is uri name a b (of_own q p now before place (inl base)) outside first second =
-    let es = to_embed layer n in
+    → named_entry ((joined top (to_embed layer fs n) ∷ []) ∷ parents) uri name ≡ None → named_entry (layer ∷ parents) uri name ≡ None
+    → BothAlike (NameFound top (to_embed layer fs n) uri) (option_and_then (λ own. named_entry ((joined top (to_embed layer fs n) ∷ []) ∷ parents) own name) (option_and_then own_uri a)) (option_and_then (λ own. named_entry (layer ∷ parents) own name) (option_and_then own_uri b))
+identified_by layer fs parents n top is uri name a b (nothing now before) outside first second =
+    both_none (NameFound top (to_embed layer fs n) uri) _ _ (ap (λ x. option_and_then (λ own. named_entry ((joined top (to_embed layer fs n) ∷ []) ∷ parents) own name) (option_and_then own_uri x)) now) (ap (λ x. option_and_then (λ own. named_entry (layer ∷ parents) own name) (option_and_then own_uri x)) before)
+identified_by layer fs parents n top is uri name a b (of_own q p now before place (inl base)) outside first second =
+    let es = to_embed layer fs n in
     both_none (NameFound top es uri) _ _
     (ap (λ x. option_and_then (λ own. named_entry ((joined top es ∷ []) ∷ parents) own name) (option_and_then own_uri x)) now ∙ no_other ((joined top es ∷ []) ∷ parents) uri name q base first)
-    (ap (λ x. option_and_then (λ own. named_entry (layer ∷ parents) own name) (option_and_then own_uri x)) before ∙ no_other (layer ∷ parents) uri name p (base_before top es uri q p (all_put layer n top is) place base) second)
-identified_by layer parents n top is uri name a b (of_own q p now before place (inr own)) outside first second =
-    let es = to_embed layer n in
+    (ap (λ x. option_and_then (λ own. named_entry (layer ∷ parents) own name) (option_and_then own_uri x)) before ∙ no_other (layer ∷ parents) uri name p (base_before top es uri q p (all_put layer fs n top is) place base) second)
+identified_by layer fs parents n top is uri name a b (of_own q p now before place (inr own)) outside first second =
+    let es = to_embed layer fs n in
     let bears : Contains (uris_of top (root top)) uri = (0, omega arith, own.1) in
     let same_own : own_uri q ≡ own_uri p = root_own_uri top es uri q p place own.0 in
     let of_root : own_uri q ≡ own_uri (root top) = ap own_uri own.0 ∙ root_own_uri top es uri (root (joined top es)) (root top) (root_under refl refl bears) refl in
@@ -317,12 +317,12 @@ identified_by layer parents n top is uri name a b (of_own q p now before place (
     (subst (λ y. BothAlike (NameFound top es uri) (option_and_then (λ o. named_entry ((joined top es ∷ []) ∷ parents) o name) (own_uri q)) (option_and_then (λ o. named_entry (layer ∷ parents) o name) (option_and_then own_uri y))) (sym before)
     (subst (λ y. BothAlike (NameFound top es uri) (option_and_then (λ o. named_entry ((joined top es ∷ []) ∷ parents) o name) (own_uri q)) (option_and_then (λ o. named_entry (layer ∷ parents) o name) y)) same_own
     (subst (λ y. BothAlike (NameFound top es uri) (option_and_then (λ o. named_entry ((joined top es ∷ []) ∷ parents) o name) y) (option_and_then (λ o. named_entry (layer ∷ parents) o name) y)) (sym of_root)
-    (by_root_base layer parents n top is uri name bears (own_uri (root top)) refl))))
-identified_by layer parents n top is uri name a b (of_parent p now before none means_) outside first second =
-    let es = to_embed layer n in
+    (by_root_base layer fs parents n top is uri name bears (own_uri (root top)) refl))))
+identified_by layer fs parents n top is uri name a b (of_parent p now before none means_) outside first second =
+    let es = to_embed layer fs n in
     subst (λ x. BothAlike (NameFound top es uri) (option_and_then (λ o. named_entry ((joined top es ∷ []) ∷ parents) o name) (option_and_then own_uri x)) (option_and_then (λ o. named_entry (layer ∷ parents) o name) (option_and_then own_uri b))) (sym now)
     (subst (λ y. BothAlike (NameFound top es uri) (option_and_then (λ o. named_entry ((joined top es ∷ []) ∷ parents) o name) (own_uri p)) (option_and_then (λ o. named_entry (layer ∷ parents) o name) (option_and_then own_uri y))) (sym before)
-    (by_parent layer parents n top is uri name p (own_uri p) refl (λ other own. outside p other none means_ own)))
+    (by_parent layer fs parents n top is uri name p (own_uri p) refl (λ other own. outside p other none means_ own)))
 
 -- ---- the anchor
 
@@ -345,14 +345,14 @@ or_fault R (Some x) None fault both = absurd both
 or_fault R (Some x) (Some y) fault both = both
 
 -- what a name means under a safe URI
-pub anchor_now : (layer : Layer) (parents : World) (n : ℕ) (top : Document) → IsMade layer n top → (uri name : List ℕ) → IsSafe layer parents n top uri
-    → ResultAlike (NameFound top (to_embed layer n) uri) (anchor ((joined top (to_embed layer n) ∷ []) ∷ parents) uri name) (anchor (layer ∷ parents) uri name)
+pub anchor_now : (layer : Layer) (fs : Further) (parents : World) (n : ℕ) (top : Document) → IsMade layer fs n top → (uri name : List ℕ) → IsSafe layer fs parents n top uri
+    → ResultAlike (NameFound top (to_embed layer fs n) uri) (anchor ((joined top (to_embed layer fs n) ∷ []) ∷ parents) uri name) (anchor (layer ∷ parents) uri name)
 unfolding anchor
-anchor_now layer parents n top is uri name safe =
-    let es = to_embed layer n in
+anchor_now layer fs parents n top is uri name safe =
+    let es = to_embed layer fs n in
     let now = (joined top es ∷ []) ∷ parents in
     let before = layer ∷ parents in
     or_fault (NameFound top es uri) (option_or (named_entry now uri name) (named_by_identifier now uri name)) (option_or (named_entry before uri name) (named_by_identifier before uri name)) (not_named name)
     (first_or_second (NameFound top es uri) (named_entry now uri name) (named_entry before uri name) (named_by_identifier now uri name) (named_by_identifier before uri name)
-    (named_found_now layer parents n top uri name is safe.clear)
-    (λ first second. identified_by layer parents n top is uri name (meant_place now uri) (meant_place before uri) (meaning layer parents n top uri is safe.clear) safe.outside first second))
+    (named_found_now layer fs parents n top uri name is safe.clear)
+    (λ first second. identified_by layer fs parents n top is uri name (meant_place now uri) (meant_place before uri) (meaning layer fs parents n top uri is safe.clear) safe.outside first second))

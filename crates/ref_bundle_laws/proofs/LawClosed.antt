@@ -2,10 +2,10 @@
 use Rattle.std.proofs.Common.{◌≡◌, ℕ, zero, suc, ◌+◌, ◌≤◌, ◌<◌, Bool, true, false, cond, ◌||◌, ◌==◌, eqb-true, eq-eqb, List, [], ◌∷◌, flat_map, map, filter, length, Option, Some, None, slice_get, ◌⊎◌, inl, inr, ⊎_elim, refl, sym, ap, subst, ◌∙◌, true≢false, arith}
 use Rattle.std.specs.List.{AllByRecursion, Contains}
 use Rattle.std.specs.Option.{option_map_or, option_to_list}
-use Rattle.std.proofs.lemmas.List.Elements.{Contains-append_right}
+use Rattle.std.proofs.lemmas.List.Elements.{Contains-append_right, Contains-append_left}
 use Rattle.ref_definitions.specs.World.{Document, Layer}
 use Rattle.ref_definitions.specs.Places.{Place, places}
-use Rattle.ref_bundle.specs.Needed.{counted_documents, document_under, targets, referred_in, referred_from, is_among, numbers, with_referred, reached_documents, numbers_of_needed, needed_documents}
+use Rattle.ref_bundle.specs.Needed.{Further, Seen, further_in, counted_documents, document_under, targets_from, targets, referred_in, referred_by_seen, referred_of, referred_from, is_among, numbers, with_referred, reached_documents, numbers_of_needed, needed_documents}
 use Rattle.ref_definitions.proofs.Lists.{first_or_later, in_joined, in_map}
 
 -- ---- numbers of a list
@@ -105,48 +105,48 @@ pub record IsPicked (layer : Layer) (ns : List ℕ) : Type 0 where
   pub test : ℕ → Bool
   pub are : ns ≡ filter test (numbers layer)
 
-abbrev pub next_test : Layer → List ℕ → ℕ → Bool
-next_test layer some n = is_among some n || is_among (flat_map (referred_from layer) some) n
+abbrev pub next_test : Layer → Further → List ℕ → ℕ → Bool
+next_test layer fs some n = is_among some n || is_among (flat_map (referred_from layer fs) some) n
 
-weaker_next : (layer : Layer) (ns : List ℕ) (t : ℕ → Bool) (more : List ℕ) → ((n : ℕ) → Contains ns n → t n ≡ true → is_among more n ≡ true) → AllByRecursion (λ n. t n ≡ true → next_test layer more n ≡ true) ns
-weaker_next layer [] t more each = tt
-weaker_next layer (n ∷ ns) t more each = (
-  (λ passes. or_first (is_among more n) (is_among (flat_map (referred_from layer) more) n) (each n (0, omega arith, refl) passes)),
-  weaker_next layer ns t more (λ m there passes. each m (Contains-append_right (n ∷ []) ns m there) passes),
+weaker_next : (layer : Layer) (fs : Further) (ns : List ℕ) (t : ℕ → Bool) (more : List ℕ) → ((n : ℕ) → Contains ns n → t n ≡ true → is_among more n ≡ true) → AllByRecursion (λ n. t n ≡ true → next_test layer fs more n ≡ true) ns
+weaker_next layer fs [] t more each = tt
+weaker_next layer fs (n ∷ ns) t more each = (
+  (λ passes. or_first (is_among more n) (is_among (flat_map (referred_from layer fs) more) n) (each n (0, omega arith, refl) passes)),
+  weaker_next layer fs ns t more (λ m there passes. each m (Contains-append_right (n ∷ []) ns m there) passes),
 )
 
-grows : (layer : Layer) (some : List ℕ) → IsPicked layer some → SameOrMore some (with_referred layer some)
-grows layer some picked =
-    subst (λ s. SameOrMore s (with_referred layer some)) (sym picked.are)
-    (same_or_more picked.test (next_test layer some) (numbers layer)
-    (weaker_next layer (numbers layer) picked.test some (λ n there passes. is_there some n (subst (λ s. Contains s n) (sym picked.are) (kept_in picked.test (numbers layer) n there passes)))))
+grows : (layer : Layer) (fs : Further) (some : List ℕ) → IsPicked layer some → SameOrMore some (with_referred layer fs some)
+grows layer fs some picked =
+    subst (λ s. SameOrMore s (with_referred layer fs some)) (sym picked.are)
+    (same_or_more picked.test (next_test layer fs some) (numbers layer)
+    (weaker_next layer fs (numbers layer) picked.test some (λ n there passes. is_there some n (subst (λ s. Contains s n) (sym picked.are) (kept_in picked.test (numbers layer) n there passes)))))
 
-pub picked_next : (layer : Layer) (some : List ℕ) → IsPicked layer (with_referred layer some)
-picked_next layer some = record { test = next_test layer some; are = refl }
+pub picked_next : (layer : Layer) (fs : Further) (some : List ℕ) → IsPicked layer (with_referred layer fs some)
+picked_next layer fs some = record { test = next_test layer fs some; are = refl }
 
-pub stays_reached : (layer : Layer) (rounds : ℕ) (some : List ℕ) → some ≡ with_referred layer some → reached_documents layer rounds some ≡ some
-stays_reached layer zero some same = refl
-stays_reached layer (suc rounds) some same = ap (reached_documents layer rounds) (sym same) ∙ stays_reached layer rounds some same
+pub stays_reached : (layer : Layer) (fs : Further) (rounds : ℕ) (some : List ℕ) → some ≡ with_referred layer fs some → reached_documents layer fs rounds some ≡ some
+stays_reached layer fs zero some same = refl
+stays_reached layer fs (suc rounds) some same = ap (reached_documents layer fs rounds) (sym same) ∙ stays_reached layer fs rounds some same
 
 -- after some rounds nothing is added any more, or each has added one
-abbrev IsSettledOr : Layer → ℕ → List ℕ → Type 0
-IsSettledOr layer rounds some = (reached_documents layer rounds some ≡ with_referred layer (reached_documents layer rounds some)) ⊎ (rounds + length some ≤ length (reached_documents layer rounds some))
+abbrev IsSettledOr : Layer → Further → ℕ → List ℕ → Type 0
+IsSettledOr layer fs rounds some = (reached_documents layer fs rounds some ≡ with_referred layer fs (reached_documents layer fs rounds some)) ⊎ (rounds + length some ≤ length (reached_documents layer fs rounds some))
 
-settles : (layer : Layer) (rounds : ℕ) (some : List ℕ) → IsPicked layer some → IsSettledOr layer rounds some
-settles layer zero some picked = inr (omega arith)
-settles layer (suc rounds) some picked =
-    by_growth (grows layer some picked) (settles layer rounds (with_referred layer some) (picked_next layer some))
+settles : (layer : Layer) (fs : Further) (rounds : ℕ) (some : List ℕ) → IsPicked layer some → IsSettledOr layer fs rounds some
+settles layer fs zero some picked = inr (omega arith)
+settles layer fs (suc rounds) some picked =
+    by_growth (grows layer fs some picked) (settles layer fs rounds (with_referred layer fs some) (picked_next layer fs some))
   where
-    by_growth : SameOrMore some (with_referred layer some) → IsSettledOr layer rounds (with_referred layer some) → IsSettledOr layer (suc rounds) some
+    by_growth : SameOrMore some (with_referred layer fs some) → IsSettledOr layer fs rounds (with_referred layer fs some) → IsSettledOr layer fs (suc rounds) some
     by_growth (inl same) later =
-        let end : reached_documents layer (suc rounds) some ≡ some = stays_reached layer (suc rounds) some same in
-        inl (end ∙ same ∙ ap (with_referred layer) (sym end))
+        let end : reached_documents layer fs (suc rounds) some ≡ some = stays_reached layer fs (suc rounds) some same in
+        inl (end ∙ same ∙ ap (with_referred layer fs) (sym end))
     by_growth (inr less) (inl settled) = inl settled
     by_growth (inr less) (inr many) = inr (omega (arith, less, many))
 
-pub picked_after : (layer : Layer) (rounds : ℕ) (some : List ℕ) → IsPicked layer some → IsPicked layer (reached_documents layer rounds some)
-picked_after layer zero some picked = picked
-picked_after layer (suc rounds) some picked = picked_after layer rounds (with_referred layer some) (picked_next layer some)
+pub picked_after : (layer : Layer) (fs : Further) (rounds : ℕ) (some : List ℕ) → IsPicked layer some → IsPicked layer (reached_documents layer fs rounds some)
+picked_after layer fs zero some picked = picked
+picked_after layer fs (suc rounds) some picked = picked_after layer fs rounds (with_referred layer fs some) (picked_next layer fs some)
 
 picked_shorter : (layer : Layer) (some : List ℕ) → IsPicked layer some → length some ≤ length layer
 picked_shorter layer some picked =
@@ -167,24 +167,24 @@ pub root_begun : (layer : Layer) (x : ℕ × Document) → Contains (counted_doc
 root_begun layer x there = kept_in (λ n. n == x.0) (numbers layer) x.0 (in_numbers layer x there) (eq-eqb x.0 x.0 refl)
 
 -- nothing more is needed
-pub settled : (layer : Layer) (x : ℕ × Document) → Contains (counted_documents 0 layer) x → numbers_of_needed layer x.0 ≡ with_referred layer (numbers_of_needed layer x.0)
-settled layer x there =
+pub settled : (layer : Layer) (fs : Further) (x : ℕ × Document) → Contains (counted_documents 0 layer) x → numbers_of_needed layer fs x.0 ≡ with_referred layer fs (numbers_of_needed layer fs x.0)
+settled layer fs x there =
     let start = filter (λ n. n == x.0) (numbers layer) in
     let one = longer_than_none start x.0 (root_begun layer x there) in
-    let short = picked_shorter layer (numbers_of_needed layer x.0) (picked_after layer (length layer) start (picked_begun layer x.0)) in
-    ⊎_elim (λ is. is) (λ many. absurd (omega (arith, one, short, many))) (settles layer (length layer) start (picked_begun layer x.0))
+    let short = picked_shorter layer (numbers_of_needed layer fs x.0) (picked_after layer fs (length layer) start (picked_begun layer x.0)) in
+    ⊎_elim (λ is. is) (λ many. absurd (omega (arith, one, short, many))) (settles layer fs (length layer) start (picked_begun layer x.0))
 
 -- what is needed stays so
-pub stays_needed : (layer : Layer) (rounds : ℕ) (some : List ℕ) (n : ℕ) → Contains (numbers layer) n → Contains some n → Contains (reached_documents layer rounds some) n
-stays_needed layer zero some n own there = there
-stays_needed layer (suc rounds) some n own there =
-    stays_needed layer rounds (with_referred layer some) n own
-    (kept_in (next_test layer some) (numbers layer) n own (or_first (is_among some n) (is_among (flat_map (referred_from layer) some) n) (is_there some n there)))
+pub stays_needed : (layer : Layer) (fs : Further) (rounds : ℕ) (some : List ℕ) (n : ℕ) → Contains (numbers layer) n → Contains some n → Contains (reached_documents layer fs rounds some) n
+stays_needed layer fs zero some n own there = there
+stays_needed layer fs (suc rounds) some n own there =
+    stays_needed layer fs rounds (with_referred layer fs some) n own
+    (kept_in (next_test layer fs some) (numbers layer) n own (or_first (is_among some n) (is_among (flat_map (referred_from layer fs) some) n) (is_there some n there)))
 
-pub root_needed : (layer : Layer) (x : ℕ × Document) → Contains (counted_documents 0 layer) x → Contains (needed_documents layer x.0) x
-root_needed layer x there =
-    kept_in (λ (e : ℕ × Document). is_among (numbers_of_needed layer x.0) e.0) (counted_documents 0 layer) x there
-    (is_there (numbers_of_needed layer x.0) x.0 (stays_needed layer (length layer) (filter (λ n. n == x.0) (numbers layer)) x.0 (in_numbers layer x there) (root_begun layer x there)))
+pub root_needed : (layer : Layer) (fs : Further) (x : ℕ × Document) → Contains (counted_documents 0 layer) x → Contains (needed_documents layer fs x.0) x
+root_needed layer fs x there =
+    kept_in (λ (e : ℕ × Document). is_among (numbers_of_needed layer fs x.0) e.0) (counted_documents 0 layer) x there
+    (is_there (numbers_of_needed layer fs x.0) x.0 (stays_needed layer fs (length layer) (filter (λ n. n == x.0) (numbers layer)) x.0 (in_numbers layer x there) (root_begun layer x there)))
 
 -- ---- closed
 
@@ -200,19 +200,35 @@ listed : (o : Option ℕ) (k : ℕ) → o ≡ Some k → Contains (option_to_lis
 listed None k is = absurd (let e : None ≡ Some k = is in cc)
 listed (Some n) k is = (0, omega arith, let e : Some n ≡ Some k = is in cc)
 
+-- what a needed document refers to is needed
+pub referred_needed : (layer : Layer) (fs : Further) (root e x : ℕ × Document) → Contains (counted_documents 0 layer) root → Contains (needed_documents layer fs root.0) e → Contains (referred_of layer fs e) x.0
+    → Contains (counted_documents 0 layer) x → Contains (needed_documents layer fs root.0) x
+referred_needed layer fs root e x there need refers own =
+    let of_e = passes_kept (λ (y : ℕ × Document). is_among (numbers_of_needed layer fs root.0) y.0) (counted_documents 0 layer) e need in
+    let in_number : Contains (referred_from layer fs e.0) x.0 =
+    subst (λ o. Contains (option_map_or (λ d. referred_of layer fs (e.0, d)) o []) x.0) (sym (got_at layer e of_e.0)) refers in
+    let in_all : Contains (flat_map (referred_from layer fs) (numbers_of_needed layer fs root.0)) x.0 =
+    in_joined (referred_from layer fs) (numbers_of_needed layer fs root.0) e.0 x.0 (there_is (numbers_of_needed layer fs root.0) e.0 of_e.1) in_number in
+    let among : Contains (with_referred layer fs (numbers_of_needed layer fs root.0)) x.0 =
+    kept_in (next_test layer fs (numbers_of_needed layer fs root.0)) (numbers layer) x.0 (in_numbers layer x own)
+    (or_second (is_among (numbers_of_needed layer fs root.0) x.0) (is_among (flat_map (referred_from layer fs) (numbers_of_needed layer fs root.0)) x.0) (is_there (flat_map (referred_from layer fs) (numbers_of_needed layer fs root.0)) x.0 in_all)) in
+    kept_in (λ (y : ℕ × Document). is_among (numbers_of_needed layer fs root.0) y.0) (counted_documents 0 layer) x own
+    (is_there (numbers_of_needed layer fs root.0) x.0 (subst (λ ns. Contains ns x.0) (sym (settled layer fs root there)) among))
+
 -- the document that a target of a needed document's place means is needed
-pub target_needed : (layer : Layer) (root e x : ℕ × Document) (p : Place) (uri : List ℕ) → Contains (counted_documents 0 layer) root → Contains (needed_documents layer root.0) e → Contains (places e.1) p → Contains (targets p) uri
-    → document_under layer uri ≡ Some x.0 → Contains (counted_documents 0 layer) x → Contains (needed_documents layer root.0) x
-target_needed layer root e x p uri there need place target means own =
-    let of_e = passes_kept (λ (y : ℕ × Document). is_among (numbers_of_needed layer root.0) y.0) (counted_documents 0 layer) e need in
-    let in_document : Contains (referred_in layer e.1) x.0 =
-    in_joined (λ u. option_to_list (document_under layer u)) (flat_map targets (places e.1)) uri x.0 (in_joined targets (places e.1) p uri place target) (listed (document_under layer uri) x.0 means) in
-    let in_number : Contains (referred_from layer e.0) x.0 =
-    subst (λ o. Contains (option_map_or (referred_in layer) o []) x.0) (sym (got_at layer e of_e.0)) in_document in
-    let in_all : Contains (flat_map (referred_from layer) (numbers_of_needed layer root.0)) x.0 =
-    in_joined (referred_from layer) (numbers_of_needed layer root.0) e.0 x.0 (there_is (numbers_of_needed layer root.0) e.0 of_e.1) in_number in
-    let among : Contains (with_referred layer (numbers_of_needed layer root.0)) x.0 =
-    kept_in (next_test layer (numbers_of_needed layer root.0)) (numbers layer) x.0 (in_numbers layer x own)
-    (or_second (is_among (numbers_of_needed layer root.0) x.0) (is_among (flat_map (referred_from layer) (numbers_of_needed layer root.0)) x.0) (is_there (flat_map (referred_from layer) (numbers_of_needed layer root.0)) x.0 in_all)) in
-    kept_in (λ (y : ℕ × Document). is_among (numbers_of_needed layer root.0) y.0) (counted_documents 0 layer) x own
-    (is_there (numbers_of_needed layer root.0) x.0 (subst (λ ns. Contains ns x.0) (sym (settled layer root there)) among))
+pub target_needed : (layer : Layer) (fs : Further) (root e x : ℕ × Document) (p : Place) (uri : List ℕ) → Contains (counted_documents 0 layer) root → Contains (needed_documents layer fs root.0) e → Contains (places e.1) p → Contains (targets p) uri
+    → document_under layer uri ≡ Some x.0 → Contains (counted_documents 0 layer) x → Contains (needed_documents layer fs root.0) x
+target_needed layer fs root e x p uri there need place target means own =
+    referred_needed layer fs root e x there need
+    (Contains-append_left (referred_in layer e.1) (referred_by_seen layer (further_in fs e.0)) x.0
+    (in_joined (λ u. option_to_list (document_under layer u)) (flat_map targets (places e.1)) uri x.0 (in_joined targets (places e.1) p uri place target) (listed (document_under layer uri) x.0 means)))
+    own
+
+-- and so is the one that a target of its further place means
+pub seen_needed : (layer : Layer) (fs : Further) (root e x : ℕ × Document) (s : Seen) (uri : List ℕ) → Contains (counted_documents 0 layer) root → Contains (needed_documents layer fs root.0) e → Contains (further_in fs e.0) s → Contains (targets_from s.base s.value) uri
+    → document_under layer uri ≡ Some x.0 → Contains (counted_documents 0 layer) x → Contains (needed_documents layer fs root.0) x
+seen_needed layer fs root e x s uri there need place target means own =
+    referred_needed layer fs root e x there need
+    (Contains-append_right (referred_in layer e.1) (referred_by_seen layer (further_in fs e.0)) x.0
+    (in_joined (λ u. option_to_list (document_under layer u)) (flat_map (λ t. targets_from t.base t.value) (further_in fs e.0)) uri x.0 (in_joined (λ t. targets_from t.base t.value) (further_in fs e.0) s uri place target) (listed (document_under layer uri) x.0 means)))
+    own

@@ -19,9 +19,9 @@ use Rattle.ref_definitions.specs.Places.{Place, root, base_within, places}
 use Rattle.ref_definitions.specs.Wants.{faults}
 use Rattle.ref_definitions.proofs.AtOrBelow.{place_has_base}
 use Rattle.ref_bundle_laws.specs.Merges.{IsMergeOf}
-use Rattle.ref_bundle.specs.Needed.{counted_documents, is_among, numbers_of_needed, needed_documents}
-use Rattle.ref_bundle.specs.Embedding.{base_uri}
-use Rattle.ref_bundle.specs.Bundle.{Bundle, BundleRefusal, NoMap, KeyTaken, definitions_keyword, members_or_none, member_of, uris_of, at_path, taken_key, map_refusals, root_refusals, refusals, to_embed, bundle_of}
+use Rattle.ref_bundle.specs.Needed.{Further, counted_documents, is_among, numbers_of_needed, needed_documents}
+use Rattle.ref_bundle.specs.Embedding.{NotAnObject, base_uri}
+use Rattle.ref_bundle.specs.Bundle.{Bundle, BundleRefusal, NotEmbedded, NoMap, KeyTaken, definitions_keyword, members_or_none, member_of, uris_of, at_path, taken_key, map_refusals, root_refusals, refusals, to_embed, bundle_of}
 use Rattle.ref_bundle_laws.specs.Kept.{IsBundle, document_of_bundle, places_of_embedded, places_of_root}
 use Rattle.ref_bundle_laws.proofs.LawEntries.{IsFree, IsOther, each_none}
 use Rattle.ref_bundle_laws.proofs.LawBorne.{IsPut}
@@ -31,7 +31,7 @@ use Rattle.ref_bundle_laws.proofs.LawTree.{KeysApart, NoneTaken}
 use Rattle.ref_bundle_laws.proofs.LawPlaces.{HasRoomFor, put_in, AllPut, places_merge}
 use Rattle.ref_bundle_laws.proofs.LawNeeded.{above, not_equal, free_but}
 use Rattle.ref_bundle_laws.proofs.LawClosed.{counted_at, passes_kept, root_needed}
-use Rattle.ref_bundle_laws.proofs.LawBundled.{not_refused, none_in, no_obstacle, no_root_refusal, no_problem, not_shared, root_object}
+use Rattle.ref_bundle_laws.proofs.LawBundled.{not_refused, none_in, no_obstacle, no_root_refusal, no_problem, not_shared, object_unless_refused}
 use Rattle.ref_definitions.proofs.Lists.{first_or_later, each_in, all_of}
 
 -- ---- bases
@@ -55,34 +55,34 @@ base_borne d base is = base_borne_by d (identifier d.draft d.tree) base is
 
 -- ---- a bundle that isn't refused, of the own documents of a world
 
-pub record IsMade (layer : Layer) (n : ℕ) (top : Document) : Type 0 where
+pub record IsMade (layer : Layer) (fs : Further) (n : ℕ) (top : Document) : Type 0 where
   pub world : World
   pub no_fault : faults layer ≡ []
   pub at : slice_get layer n ≡ Some top
   pub in_order : InKeyOrder top.tree
-  pub unrefused : refusals layer world (n, top) (to_embed layer n) ≡ []
+  pub unrefused : refusals layer fs world (n, top) (to_embed layer fs n) ≡ []
 
-pub made : (layer : Layer) (parents : World) (n : ℕ) (top : Document) (bundle : Bundle) → IsBundle layer parents n top bundle → (is : IsMade layer n top) × (is.world ≡ layer ∷ parents) × (bundle ≡ bundle_of top (to_embed layer n))
-made layer parents n top bundle is =
-    let both = not_refused layer (layer ∷ parents) n top bundle is.root is.is in
+pub made : (layer : Layer) (fs : Further) (parents : World) (n : ℕ) (top : Document) (bundle : Bundle) → IsBundle layer fs parents n top bundle → (is : IsMade layer fs n top) × (is.world ≡ layer ∷ parents) × (bundle ≡ bundle_of top (to_embed layer fs n))
+made layer fs parents n top bundle is =
+    let both = not_refused layer fs (layer ∷ parents) n top bundle is.root is.is in
     (record { world = layer ∷ parents; no_fault = is.no_fault; at = is.root; in_order = is.in_order; unrefused = both.0 }, refl, both.1)
 
 pub root_counted : (layer : Layer) (n : ℕ) (top : Document) → slice_get layer n ≡ Some top → Contains (counted_documents 0 layer) (n, top)
 root_counted layer n top at = subst (λ k. Contains (counted_documents 0 layer) (k, top)) (let e : n + 0 ≡ n = omega arith in e) (counted_at 0 layer n top at)
 
-pub needed_counted : (layer : Layer) (n : ℕ) (x : ℕ × Document) → Contains (needed_documents layer n) x → Contains (counted_documents 0 layer) x
-needed_counted layer n x there = (passes_kept (λ (e : ℕ × Document). is_among (numbers_of_needed layer n) e.0) (counted_documents 0 layer) x there).0
+pub needed_counted : (layer : Layer) (fs : Further) (n : ℕ) (x : ℕ × Document) → Contains (needed_documents layer fs n) x → Contains (counted_documents 0 layer) x
+needed_counted layer fs n x there = (passes_kept (λ (e : ℕ × Document). is_among (numbers_of_needed layer fs n) e.0) (counted_documents 0 layer) x there).0
 
-pub embedded_needed : (layer : Layer) (n : ℕ) (x : ℕ × Document) → Contains (to_embed layer n) x → Contains (needed_documents layer n) x × ¬ (x.0 ≡ n)
-embedded_needed layer n x there =
-    let both = passes_kept (λ (e : ℕ × Document). not (e.0 == n)) (needed_documents layer n) x there in
+pub embedded_needed : (layer : Layer) (fs : Further) (n : ℕ) (x : ℕ × Document) → Contains (to_embed layer fs n) x → Contains (needed_documents layer fs n) x × ¬ (x.0 ≡ n)
+embedded_needed layer fs n x there =
+    let both = passes_kept (λ (e : ℕ × Document). not (e.0 == n)) (needed_documents layer fs n) x there in
     (both.0, λ same. true≢false (sym both.1 ∙ ap not (eq-eqb x.0 n same)))
 
 -- documents with other numbers don't have a URI that a place of a needed document has
-pub others_free : (layer : Layer) (n : ℕ) (top : Document) → IsMade layer n top → (x : ℕ × Document) (p : Place) (uri : List ℕ) → Contains (needed_documents layer n) x → Contains (places x.1) p → Contains (uris_of x.1 p) uri
+pub others_free : (layer : Layer) (fs : Further) (n : ℕ) (top : Document) → IsMade layer fs n top → (x : ℕ × Document) (p : Place) (uri : List ℕ) → Contains (needed_documents layer fs n) x → Contains (places x.1) p → Contains (uris_of x.1 p) uri
     → AllByRecursion (λ e. ¬ (e.0 ≡ x.0) → IsFree uri e.1) (counted_documents 0 layer)
-others_free layer n top is x p uri need place bears =
-    free_but layer (x.0, p.path) uri (not_shared layer is.world (n, top) x p uri (no_problem layer is.world n top x p (none_in layer is.world n top x is.unrefused need) place) bears)
+others_free layer fs n top is x p uri need place bears =
+    free_but layer (x.0, p.path) uri (not_shared layer fs is.world (n, top) x p uri (no_problem layer fs is.world n top x p (none_in layer fs is.world n top x is.unrefused need) place) bears)
 
 -- ---- the bases of documents that are embedded differ
 
@@ -121,14 +121,14 @@ pub other_base_of : (uri base : List ℕ) (r : Result (List ℕ) Refusal) → r 
 other_base_of uri base r is other same =
     true≢false (sym ((bytes_eq-Decides base uri).1 same) ∙ subst (IsOther uri) is other)
 
-bases_apart : (layer : Layer) (n : ℕ) (top : Document) → IsMade layer n top → (e f : ℕ × Document) → Contains (to_embed layer n) e → Contains (to_embed layer n) f → ¬ (f.0 ≡ e.0) → ¬ (base_uri f.1 ≡ base_uri e.1)
-bases_apart layer n top is e f there also other =
-    let need = (embedded_needed layer n e there).0 in
-    let own = needed_counted layer n e need in
+bases_apart : (layer : Layer) (fs : Further) (n : ℕ) (top : Document) → IsMade layer fs n top → (e f : ℕ × Document) → Contains (to_embed layer fs n) e → Contains (to_embed layer fs n) f → ¬ (f.0 ≡ e.0) → ¬ (base_uri f.1 ≡ base_uri e.1)
+bases_apart layer fs n top is e f there also other =
+    let need = (embedded_needed layer fs n e there).0 in
+    let own = needed_counted layer fs n e need in
     let base = root_base layer e is.no_fault own in
-    let at_f = needed_counted layer n f (embedded_needed layer n f also).0 in
+    let at_f = needed_counted layer fs n f (embedded_needed layer fs n f also).0 in
     let free_ = each_in (λ x. ¬ (x.0 ≡ e.0) → IsFree (base_uri e.1) x.1) (counted_documents 0 layer) f
-    (others_free layer n top is e (root e.1) (base_uri e.1) need (0, omega arith, refl) (base_borne e.1 (base_uri e.1) base)) at_f other in
+    (others_free layer fs n top is e (root e.1) (base_uri e.1) need (0, omega arith, refl) (base_borne e.1 (base_uri e.1) base)) at_f other in
     other_base_of (base_uri e.1) (base_uri f.1) (root f.1).base (root_base layer f is.no_fault at_f) free_.bases.0
 
 -- ---- room
@@ -165,42 +165,44 @@ place_by n keyword draft (Some (object ms)) es none = record {
   free = none_taken n keyword draft ms es (each_none (taken_key n keyword ms) es none);
 }
 
-room_by : (n : ℕ) (top : Document) (es : List (ℕ × Document)) → root_refusals (n, top) es ≡ [] → (¬ (es ≡ []) → is_object top.tree ≡ true) → KeysApart (map (member_of top.draft) es) → HasRoomFor top es
-room_by n top [] none object_ apart = tt
-room_by n top (e ∷ es) none object_ apart =
-    let place = place_by n (definitions_keyword top.draft) top.draft (get (definitions_keyword top.draft) top.tree) (e ∷ es) none in
-    record { object = object_ (λ is. let x : e ∷ es ≡ [] = is in cc); has_map = place.has_map; free = place.free; keys_apart = apart }
+room_by : (n : ℕ) (top : Document) (es : List (ℕ × Document)) → root_refusals (n, top) es ≡ [] → KeysApart (map (member_of top.draft) es) → HasRoomFor top es
+room_by n top [] none apart = tt
+room_by n top (e ∷ es) none apart =
+    let keyword = definitions_keyword top.draft in
+    let both = object_unless_refused (is_object top.tree) (map_refusals n keyword (get keyword top.tree) (e ∷ es)) (at_path n [] (NotEmbedded NotAnObject)) none in
+    let place = place_by n keyword top.draft (get keyword top.tree) (e ∷ es) both.1 in
+    record { object = both.0; has_map = place.has_map; free = place.free; keys_apart = apart }
 
-pub room : (layer : Layer) (n : ℕ) (top : Document) → IsMade layer n top → HasRoomFor top (to_embed layer n)
-room layer n top is =
+pub room : (layer : Layer) (fs : Further) (n : ℕ) (top : Document) → IsMade layer fs n top → HasRoomFor top (to_embed layer fs n)
+room layer fs n top is =
     let own = root_counted layer n top is.at in
-    let none = none_in layer is.world n top (n, top) is.unrefused (root_needed layer (n, top) own) in
-    room_by n top (to_embed layer n) (no_root_refusal layer is.world n top none) (λ some. root_object layer n top (is_object top.tree) refl is.at some)
-    (keys_apart top.draft (to_embed layer n) (bases_apart layer n top is)
-    (kept_apart (λ (e : ℕ × Document). not (e.0 == n)) (needed_documents layer n) (kept_apart (λ (e : ℕ × Document). is_among (numbers_of_needed layer n) e.0) (counted_documents 0 layer) (counted_apart 0 layer))))
+    let none = none_in layer fs is.world n top (n, top) is.unrefused (root_needed layer fs (n, top) own) in
+    room_by n top (to_embed layer fs n) (no_root_refusal layer fs is.world n top none)
+    (keys_apart top.draft (to_embed layer fs n) (bases_apart layer fs n top is)
+    (kept_apart (λ (e : ℕ × Document). not (e.0 == n)) (needed_documents layer fs n) (kept_apart (λ (e : ℕ × Document). is_among (numbers_of_needed layer fs n) e.0) (counted_documents 0 layer) (counted_apart 0 layer))))
 
 -- ---- each is put
 
-pub put_of : (layer : Layer) (n : ℕ) (top : Document) → IsMade layer n top → (x : ℕ × Document) → Contains (to_embed layer n) x → IsPut (put_in top x)
-put_of layer n top is x there =
-    let need = embedded_needed layer n x there in
+pub put_of : (layer : Layer) (fs : Further) (n : ℕ) (top : Document) → IsMade layer fs n top → (x : ℕ × Document) → Contains (to_embed layer fs n) x → IsPut (put_in top x)
+put_of layer fs n top is x there =
+    let need = embedded_needed layer fs n x there in
     put_there (definitions_keyword top.draft) (base_uri top) (base_uri x.1) top x.1
-    (embeddable top x.1 (no_obstacle layer is.world n top x (none_in layer is.world n top x is.unrefused need.0) need.1))
+    (embeddable top x.1 (no_obstacle layer fs is.world n top x (none_in layer fs is.world n top x is.unrefused need.0) need.1))
     (root_base layer (n, top) is.no_fault (root_counted layer n top is.at))
-    (root_base layer x is.no_fault (needed_counted layer n x need.0))
+    (root_base layer x is.no_fault (needed_counted layer fs n x need.0))
 
-pub all_put : (layer : Layer) (n : ℕ) (top : Document) → IsMade layer n top → AllPut top (to_embed layer n)
-all_put layer n top is = all_of (λ e. IsPut (put_in top e)) (to_embed layer n) (put_of layer n top is)
+pub all_put : (layer : Layer) (fs : Further) (n : ℕ) (top : Document) → IsMade layer fs n top → AllPut top (to_embed layer fs n)
+all_put layer fs n top is = all_of (λ e. IsPut (put_in top e)) (to_embed layer fs n) (put_of layer fs n top is)
 
 -- ---- the places
 
-pub made_places : (layer : Layer) (n : ℕ) (top : Document) → IsMade layer n top
-    → IsMergeOf Place (places (document_of_bundle top (bundle_of top (to_embed layer n)))) (places_of_root top (bundle_of top (to_embed layer n)) ∷ map (places_of_embedded top) (to_embed layer n))
-made_places layer n top is =
-    places_merge top (to_embed layer n) (root_base layer (n, top) is.no_fault (root_counted layer n top is.at)) is.in_order (room layer n top is) (all_put layer n top is)
+pub made_places : (layer : Layer) (fs : Further) (n : ℕ) (top : Document) → IsMade layer fs n top
+    → IsMergeOf Place (places (document_of_bundle top (bundle_of top (to_embed layer fs n)))) (places_of_root top (bundle_of top (to_embed layer fs n)) ∷ map (places_of_embedded top) (to_embed layer fs n))
+made_places layer fs n top is =
+    places_merge top (to_embed layer fs n) (root_base layer (n, top) is.no_fault (root_counted layer n top is.at)) is.in_order (room layer fs n top is) (all_put layer fs n top is)
 
-pub bundle_places : (layer : Layer) (parents : World) (n : ℕ) (top : Document) (bundle : Bundle) → IsBundle layer parents n top bundle
-    → IsMergeOf Place (places (document_of_bundle top bundle)) (places_of_root top bundle ∷ map (places_of_embedded top) (to_embed layer n))
-bundle_places layer parents n top bundle is =
-    let both = made layer parents n top bundle is in
-    subst (λ b. IsMergeOf Place (places (document_of_bundle top b)) (places_of_root top b ∷ map (places_of_embedded top) (to_embed layer n))) (sym both.2) (made_places layer n top both.0)
+pub bundle_places : (layer : Layer) (fs : Further) (parents : World) (n : ℕ) (top : Document) (bundle : Bundle) → IsBundle layer fs parents n top bundle
+    → IsMergeOf Place (places (document_of_bundle top bundle)) (places_of_root top bundle ∷ map (places_of_embedded top) (to_embed layer fs n))
+bundle_places layer fs parents n top bundle is =
+    let both = made layer fs parents n top bundle is in
+    subst (λ b. IsMergeOf Place (places (document_of_bundle top b)) (places_of_root top b ∷ map (places_of_embedded top) (to_embed layer fs n))) (sym both.2) (made_places layer fs n top both.0)

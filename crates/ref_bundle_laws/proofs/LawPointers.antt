@@ -42,18 +42,19 @@ use Rattle.ref_bundle_laws.proofs.LawPut.{apart, IsEmbeddable, get_embedded, id_
 use Rattle.ref_bundle_laws.proofs.LawPlaces.{HasRoom, HasRoomFor}
 use Rattle.ref_bundle_laws.proofs.LawTop.{get_top, object_top, identifier_alike}
 use Rattle.ref_bundle_laws.proofs.LawWalk.{object_step, walk_alike, walk_through, walk_there, goes_on, along_alike}
+use Rattle.ref_bundle.specs.Needed.{Further}
 
 -- ---- answers of pointers
 
 abbrev pub AnswerOf : Resolver → Draft → Result (Data × Along) Fault → Result Found Fault
 AnswerOf r draft to = to >>= λ x. Ok (pointer_found r draft x)
 
-pub same_answer : (layer : Layer) (n : ℕ) (top : Document) (bundle : Bundle) (a : Result Found Fault) → IsAnswerNow layer n top bundle a a
-same_answer layer n top bundle (Ok found) = (the_same refl, refl, refl)
-same_answer layer n top bundle (Err fault) = refl
+pub same_answer : (layer : Layer) (fs : Further) (n : ℕ) (top : Document) (bundle : Bundle) (a : Result Found Fault) → IsAnswerNow layer fs n top bundle a a
+same_answer layer fs n top bundle (Ok found) = (the_same refl, refl, refl)
+same_answer layer fs n top bundle (Err fault) = refl
 
-pub equal_answer : (layer : Layer) (n : ℕ) (top : Document) (bundle : Bundle) (a b : Result Found Fault) → a ≡ b → IsAnswerNow layer n top bundle a b
-equal_answer layer n top bundle a b is = subst (IsAnswerNow layer n top bundle a) is (same_answer layer n top bundle a)
+pub equal_answer : (layer : Layer) (fs : Further) (n : ℕ) (top : Document) (bundle : Bundle) (a b : Result Found Fault) → a ≡ b → IsAnswerNow layer fs n top bundle a b
+equal_answer layer fs n top bundle a b is = subst (IsAnswerNow layer fs n top bundle a) is (same_answer layer fs n top bundle a)
 
 -- a key of a list, or none of them
 pub which : (key : List ℕ) (es : List (ℕ × Document)) → ((e : ℕ × Document) × Contains es e × (key ≡ base_uri e.1)) ⊎ AllByRecursion (λ e. ¬ (key ≡ base_uri e.1)) es
@@ -142,44 +143,44 @@ embedded_member top e able key false true own also plain =
 embedded_member top e able key false false own also plain =
     get_embedded top.draft e.1 key (apart key (id_keyword e.1.draft) own) (apart key (codes "$schema") also)
 
-embedded_tokens : (layer : Layer) (n : ℕ) (top : Document) (bundle : Bundle) (e : ℕ × Document) → Contains (to_embed layer n) e → IsEmbeddable top e.1 → (r : Resolver) (pointer : List ℕ) (along : Along) (list : List (List ℕ))
+embedded_tokens : (layer : Layer) (fs : Further) (n : ℕ) (top : Document) (bundle : Bundle) (e : ℕ × Document) → Contains (to_embed layer fs n) e → IsEmbeddable top e.1 → (r : Resolver) (pointer : List ℕ) (along : Along) (list : List (List ℕ))
     → along.base ≡ base_uri e.1 → ((key : List ℕ) → option_map unescape (slice_get list 0) ≡ Some key → is_added_under top.draft e.1 key ≡ false)
-    → IsAnswerNow layer n top bundle (AnswerOf r e.1.draft (walked_along e.1.draft pointer along (embedded_tree top.draft e.1) list)) (AnswerOf r e.1.draft (walked_along e.1.draft pointer along e.1.tree list))
-embedded_tokens layer n top bundle e there able r pointer along [] own plain = (an_embedded e there own refl refl, refl, refl)
-embedded_tokens layer n top bundle e there able r pointer along (token ∷ more) own plain =
-    equal_answer layer n top bundle _ _
+    → IsAnswerNow layer fs n top bundle (AnswerOf r e.1.draft (walked_along e.1.draft pointer along (embedded_tree top.draft e.1) list)) (AnswerOf r e.1.draft (walked_along e.1.draft pointer along e.1.tree list))
+embedded_tokens layer fs n top bundle e there able r pointer along [] own plain = (an_embedded e there own refl refl, refl, refl)
+embedded_tokens layer fs n top bundle e there able r pointer along (token ∷ more) own plain =
+    equal_answer layer fs n top bundle _ _
     (ap (AnswerOf r e.1.draft) (walk_alike e.1.draft pointer along (embedded_tree top.draft e.1) e.1.tree token more (object_embedded top.draft e.1 ∙ able.object) able.object
     (embedded_member top e able (unescape token) (bytes_eq (unescape token) (id_keyword e.1.draft)) (bytes_eq (unescape token) (codes "$schema")) refl refl (plain (unescape token) refl))))
 
-embedded_decoded : (layer : Layer) (n : ℕ) (top : Document) (bundle : Bundle) (e : ℕ × Document) → Contains (to_embed layer n) e → IsEmbeddable top e.1 → (r : Resolver) (pointer base text : List ℕ) (b : Bool)
+embedded_decoded : (layer : Layer) (fs : Further) (n : ℕ) (top : Document) (bundle : Bundle) (e : ℕ × Document) → Contains (to_embed layer fs n) e → IsEmbeddable top e.1 → (r : Resolver) (pointer base text : List ℕ) (b : Bool)
     → base ≡ base_uri e.1 → ((key : List ℕ) → option_and_then (key_at 0) (cond b (Some (percent_decode text)) None) ≡ Some key → is_added_under top.draft e.1 key ≡ false)
-    → IsAnswerNow layer n top bundle (AnswerOf r e.1.draft (cond b (walked_along e.1.draft pointer (record { base = base; since = [] }) (embedded_tree top.draft e.1) (tokens (percent_decode text))) (Err (InvalidPercentEncoding pointer))))
+    → IsAnswerNow layer fs n top bundle (AnswerOf r e.1.draft (cond b (walked_along e.1.draft pointer (record { base = base; since = [] }) (embedded_tree top.draft e.1) (tokens (percent_decode text))) (Err (InvalidPercentEncoding pointer))))
     (AnswerOf r e.1.draft (cond b (walked_along e.1.draft pointer (record { base = base; since = [] }) e.1.tree (tokens (percent_decode text))) (Err (InvalidPercentEncoding pointer))))
-embedded_decoded layer n top bundle e there able r pointer base text true own plain =
-    embedded_tokens layer n top bundle e there able r pointer (record { base = base; since = [] }) (tokens (percent_decode text)) own plain
-embedded_decoded layer n top bundle e there able r pointer base text false own plain = refl
+embedded_decoded layer fs n top bundle e there able r pointer base text true own plain =
+    embedded_tokens layer fs n top bundle e there able r pointer (record { base = base; since = [] }) (tokens (percent_decode text)) own plain
+embedded_decoded layer fs n top bundle e there able r pointer base text false own plain = refl
 
 -- a pointer to nothing that is added is percent-decoded, and goes the way that it went
-pub embedded_pointed : (layer : Layer) (n : ℕ) (top : Document) (bundle : Bundle) (e : ℕ × Document) → Contains (to_embed layer n) e → IsEmbeddable top e.1 → (r : Resolver) (pointer base text : List ℕ)
+pub embedded_pointed : (layer : Layer) (fs : Further) (n : ℕ) (top : Document) (bundle : Bundle) (e : ℕ × Document) → Contains (to_embed layer fs n) e → IsEmbeddable top e.1 → (r : Resolver) (pointer base text : List ℕ)
     → base ≡ base_uri e.1 → ((key : List ℕ) → option_and_then (key_at 0) (pointer_in (47 ∷ text)) ≡ Some key → is_added_under top.draft e.1 key ≡ false)
-    → IsAnswerNow layer n top bundle (AnswerOf r e.1.draft (pointed_value e.1.draft pointer base (embedded_tree top.draft e.1) text)) (AnswerOf r e.1.draft (pointed_value e.1.draft pointer base e.1.tree text))
-embedded_pointed layer n top bundle e there able r pointer base text own plain =
-    embedded_decoded layer n top bundle e there able r pointer base text (is_utf8 (percent_decode text)) own plain
+    → IsAnswerNow layer fs n top bundle (AnswerOf r e.1.draft (pointed_value e.1.draft pointer base (embedded_tree top.draft e.1) text)) (AnswerOf r e.1.draft (pointed_value e.1.draft pointer base e.1.tree text))
+embedded_pointed layer fs n top bundle e there able r pointer base text own plain =
+    embedded_decoded layer fs n top bundle e there able r pointer base text (is_utf8 (percent_decode text)) own plain
 
 -- ---- from the root
 
 -- a pointer of which no embedded document's key is the second, after the keyword of definitions
-abbrev pub IsApart : Layer → ℕ → Document → List ℕ → Type 0
-IsApart layer n top fragment =
-    (e : ℕ × Document) → Contains (to_embed layer n) e → (text : List ℕ) → pointer_in fragment ≡ Some text → ¬ (second_key (definitions_keyword top.draft) text ≡ Some (base_uri e.1))
+abbrev pub IsApart : Layer → Further → ℕ → Document → List ℕ → Type 0
+IsApart layer fs n top fragment =
+    (e : ℕ × Document) → Contains (to_embed layer fs n) e → (text : List ℕ) → pointer_in fragment ≡ Some text → ¬ (second_key (definitions_keyword top.draft) text ≡ Some (base_uri e.1))
 
 -- a pointer from the root to its definitions
-pub record LeadsToDefinitions (layer : Layer) (n : ℕ) (top : Document) (r : Resolver) (fragment : List ℕ) (now before : Result Found Fault) : Type 0 where
+pub record LeadsToDefinitions (layer : Layer) (fs : Further) (n : ℕ) (top : Document) (r : Resolver) (fragment : List ℕ) (now before : Result Found Fault) : Type 0 where
   pub pointer : IsPointerOf fragment (definitions_keyword top.draft ∷ [])
-  pub answers : AreDefinitionsNow layer n top r fragment now before
+  pub answers : AreDefinitionsNow layer fs n top r fragment now before
 
-abbrev pub IsRootAnswer : Layer → ℕ → Document → Bundle → Resolver → List ℕ → Result Found Fault → Result Found Fault → Type 0
-IsRootAnswer layer n top bundle r fragment now before = IsAnswerNow layer n top bundle now before ⊎ LeadsToDefinitions layer n top r fragment now before
+abbrev pub IsRootAnswer : Layer → Further → ℕ → Document → Bundle → Resolver → List ℕ → Result Found Fault → Result Found Fault → Type 0
+IsRootAnswer layer fs n top bundle r fragment now before = IsAnswerNow layer fs n top bundle now before ⊎ LeadsToDefinitions layer fs n top r fragment now before
 
 -- the second key of a text with these tokens
 second_is : (keyword text token second : List ℕ) (more : List (List ℕ)) → tokens text ≡ token ∷ second ∷ more → bytes_eq (unescape token) keyword ≡ true → second_key keyword text ≡ Some (unescape second)
@@ -196,9 +197,9 @@ one_token keyword text token utf8 first own = record {
 }
 
 -- where the first key is the keyword of definitions, the second is none of the embedded documents'
-none_second : (layer : Layer) (n : ℕ) (top : Document) (es : List (ℕ × Document)) → to_embed layer n ≡ es → (text token second : List ℕ) (more : List (List ℕ)) → is_utf8 (percent_decode text) ≡ true → tokens (percent_decode text) ≡ token ∷ second ∷ more
-    → bytes_eq (unescape token) (definitions_keyword top.draft) ≡ true → IsApart layer n top (47 ∷ text) → AllByRecursion (λ e. ¬ (unescape second ≡ base_uri e.1)) es
-none_second layer n top es are text token second more utf8 first own apart_ =
+none_second : (layer : Layer) (fs : Further) (n : ℕ) (top : Document) (es : List (ℕ × Document)) → to_embed layer fs n ≡ es → (text token second : List ℕ) (more : List (List ℕ)) → is_utf8 (percent_decode text) ≡ true → tokens (percent_decode text) ≡ token ∷ second ∷ more
+    → bytes_eq (unescape token) (definitions_keyword top.draft) ≡ true → IsApart layer fs n top (47 ∷ text) → AllByRecursion (λ e. ¬ (unescape second ≡ base_uri e.1)) es
+none_second layer fs n top es are text token second more utf8 first own apart_ =
     ⊎_elim
     (λ added. absurd (apart_ added.0 (subst (λ l. Contains l added.0) (sym are) added.1) (percent_decode text) (ap (λ b. cond b (Some (percent_decode text)) None) utf8)
     (second_is (definitions_keyword top.draft) (percent_decode text) token second more first own ∙ ap (λ k. Some k) added.2)))
@@ -224,27 +225,27 @@ none_of_them : (top : Document) → get (definitions_keyword top.draft) top.tree
 none_of_them top is = ap (λ o. members_or_none (option_and_then as_object o)) is
 
 -- all of the definitions, where these documents are embedded
-all_are : (layer : Layer) (n : ℕ) (top : Document) (es : List (ℕ × Document)) → to_embed layer n ≡ es → object (with_all (map (member_of top.draft) es) (definitions_of top)) ≡ definitions_now layer n top
-all_are layer n top es are = ap (λ l. object (with_all (map (member_of top.draft) l) (definitions_of top))) (sym are)
+all_are : (layer : Layer) (fs : Further) (n : ℕ) (top : Document) (es : List (ℕ × Document)) → to_embed layer fs n ≡ es → object (with_all (map (member_of top.draft) es) (definitions_of top)) ≡ definitions_now layer fs n top
+all_are layer fs n top es are = ap (λ l. object (with_all (map (member_of top.draft) l) (definitions_of top))) (sym are)
 
 -- ---- to definitions that were there
 
-with_more : (layer : Layer) (n : ℕ) (top : Document) (bundle : Bundle) (r : Resolver) (fragment : List ℕ) → IsPointerOf fragment (definitions_keyword top.draft ∷ []) → (few : Members) → get (definitions_keyword top.draft) top.tree ≡ Some (object few)
-    → (a b : Result Along Fault) (all : Data) → a ≡ b → all ≡ definitions_now layer n top
-    → IsRootAnswer layer n top bundle r fragment (AnswerOf r top.draft (a >>= λ next. Ok (all, next))) (AnswerOf r top.draft (b >>= λ next. Ok (object few, next)))
-with_more layer n top bundle r fragment pointer few had a b all same are =
-    subst (λ x. IsRootAnswer layer n top bundle r fragment (AnswerOf r top.draft (x >>= λ next. Ok (all, next))) (AnswerOf r top.draft (b >>= λ next. Ok (object few, next)))) (sym same) (by_answer b)
+with_more : (layer : Layer) (fs : Further) (n : ℕ) (top : Document) (bundle : Bundle) (r : Resolver) (fragment : List ℕ) → IsPointerOf fragment (definitions_keyword top.draft ∷ []) → (few : Members) → get (definitions_keyword top.draft) top.tree ≡ Some (object few)
+    → (a b : Result Along Fault) (all : Data) → a ≡ b → all ≡ definitions_now layer fs n top
+    → IsRootAnswer layer fs n top bundle r fragment (AnswerOf r top.draft (a >>= λ next. Ok (all, next))) (AnswerOf r top.draft (b >>= λ next. Ok (object few, next)))
+with_more layer fs n top bundle r fragment pointer few had a b all same are =
+    subst (λ x. IsRootAnswer layer fs n top bundle r fragment (AnswerOf r top.draft (x >>= λ next. Ok (all, next))) (AnswerOf r top.draft (b >>= λ next. Ok (object few, next)))) (sym same) (by_answer b)
   where
-    by_answer : (x : Result Along Fault) → IsRootAnswer layer n top bundle r fragment (AnswerOf r top.draft (x >>= λ next. Ok (all, next))) (AnswerOf r top.draft (x >>= λ next. Ok (object few, next)))
+    by_answer : (x : Result Along Fault) → IsRootAnswer layer fs n top bundle r fragment (AnswerOf r top.draft (x >>= λ next. Ok (all, next))) (AnswerOf r top.draft (x >>= λ next. Ok (object few, next)))
     by_answer (Ok next) =
         inr (record { pointer = pointer; answers = more_than (pointer_found r top.draft (object few, next)) had (ap (λ v. Ok (pointer_found r top.draft (v, next))) are) refl })
     by_answer (Err fault) = inl refl
 
 -- a pointer whose first token is the keyword of definitions
-in_definitions : (layer : Layer) (n : ℕ) (top : Document) (e : ℕ × Document) (es : List (ℕ × Document)) → to_embed layer n ≡ e ∷ es → is_object top.tree ≡ true → AllByRecursion (λ x. IsEmbeddable top x.1) (e ∷ es) → (few : Members) → get (definitions_keyword top.draft) top.tree ≡ Some (object few)
-    → (r : Resolver) (along : Along) (text token : List ℕ) (more : List (List ℕ)) → is_utf8 (percent_decode text) ≡ true → tokens (percent_decode text) ≡ token ∷ more → bytes_eq (unescape token) (definitions_keyword top.draft) ≡ true → IsApart layer n top (47 ∷ text)
-    → IsRootAnswer layer n top (bundle_of top (e ∷ es)) r (47 ∷ text) (AnswerOf r top.draft (walked_along top.draft (47 ∷ text) along (tree_with top (e ∷ es)) (token ∷ more))) (AnswerOf r top.draft (walked_along top.draft (47 ∷ text) along top.tree (token ∷ more)))
-in_definitions layer n top e es are is able few had r along text token [] utf8 first same apart_ =
+in_definitions : (layer : Layer) (fs : Further) (n : ℕ) (top : Document) (e : ℕ × Document) (es : List (ℕ × Document)) → to_embed layer fs n ≡ e ∷ es → is_object top.tree ≡ true → AllByRecursion (λ x. IsEmbeddable top x.1) (e ∷ es) → (few : Members) → get (definitions_keyword top.draft) top.tree ≡ Some (object few)
+    → (r : Resolver) (along : Along) (text token : List ℕ) (more : List (List ℕ)) → is_utf8 (percent_decode text) ≡ true → tokens (percent_decode text) ≡ token ∷ more → bytes_eq (unescape token) (definitions_keyword top.draft) ≡ true → IsApart layer fs n top (47 ∷ text)
+    → IsRootAnswer layer fs n top (bundle_of top (e ∷ es)) r (47 ∷ text) (AnswerOf r top.draft (walked_along top.draft (47 ∷ text) along (tree_with top (e ∷ es)) (token ∷ more))) (AnswerOf r top.draft (walked_along top.draft (47 ∷ text) along top.tree (token ∷ more)))
+in_definitions layer fs n top e es are is able few had r along text token [] utf8 first same apart_ =
     let pointer = 47 ∷ text in
     let own : unescape token ≡ definitions_keyword top.draft = (bytes_eq-Decides (unescape token) (definitions_keyword top.draft)).0 same in
     let all = object (with_all (map (member_of top.draft) (e ∷ es)) (definitions_of top)) in
@@ -252,12 +253,12 @@ in_definitions layer n top e es are is able few had r along text token [] utf8 f
     let at_before : get (unescape token) top.tree ≡ Some (object few) = ap (λ k. get k top.tree) own ∙ had in
     let ids : identifier top.draft all ≡ identifier top.draft (object few) =
     same_identifier top (e ∷ es) (definitions_of top) able ∙ ap (λ ms. identifier top.draft (object ms)) (few_of top few had) in
-    subst (λ x. IsRootAnswer layer n top (bundle_of top (e ∷ es)) r pointer (AnswerOf r top.draft x) (AnswerOf r top.draft (walked_along top.draft pointer along top.tree (token ∷ [])))) (sym (walk_there top.draft pointer along (tree_with top (e ∷ es)) token [] all (object_top top (e ∷ es) ∙ is) at_now))
-    (subst (λ x. IsRootAnswer layer n top (bundle_of top (e ∷ es)) r pointer (AnswerOf r top.draft (goes_on top.draft pointer along (Key (unescape token)) [] all)) (AnswerOf r top.draft x)) (sym (walk_there top.draft pointer along top.tree token [] (object few) is at_before))
-    (with_more layer n top (bundle_of top (e ∷ es)) r pointer (one_token (definitions_keyword top.draft) text token utf8 first own) few had
+    subst (λ x. IsRootAnswer layer fs n top (bundle_of top (e ∷ es)) r pointer (AnswerOf r top.draft x) (AnswerOf r top.draft (walked_along top.draft pointer along top.tree (token ∷ [])))) (sym (walk_there top.draft pointer along (tree_with top (e ∷ es)) token [] all (object_top top (e ∷ es) ∙ is) at_now))
+    (subst (λ x. IsRootAnswer layer fs n top (bundle_of top (e ∷ es)) r pointer (AnswerOf r top.draft (goes_on top.draft pointer along (Key (unescape token)) [] all)) (AnswerOf r top.draft x)) (sym (walk_there top.draft pointer along top.tree token [] (object few) is at_before))
+    (with_more layer fs n top (bundle_of top (e ∷ es)) r pointer (one_token (definitions_keyword top.draft) text token utf8 first own) few had
     (as_invalid_uri (along_part top.draft along (Key (unescape token)) all)) (as_invalid_uri (along_part top.draft along (Key (unescape token)) (object few))) all
-    (ap as_invalid_uri (along_alike top.draft along (Key (unescape token)) all (object few) refl ids)) (all_are layer n top (e ∷ es) are)))
-in_definitions layer n top e es are is able few had r along text token (second ∷ more) utf8 first same apart_ =
+    (ap as_invalid_uri (along_alike top.draft along (Key (unescape token)) all (object few) refl ids)) (all_are layer fs n top (e ∷ es) are)))
+in_definitions layer fs n top e es are is able few had r along text token (second ∷ more) utf8 first same apart_ =
     let pointer = 47 ∷ text in
     let own : unescape token ≡ definitions_keyword top.draft = (bytes_eq-Decides (unescape token) (definitions_keyword top.draft)).0 same in
     let all = with_all (map (member_of top.draft) (e ∷ es)) (definitions_of top) in
@@ -265,8 +266,8 @@ in_definitions layer n top e es are is able few had r along text token (second �
     let at_before : get (unescape token) top.tree ≡ Some (object few) = ap (λ k. get k top.tree) own ∙ had in
     let ids : identifier top.draft (object all) ≡ identifier top.draft (object few) =
     same_identifier top (e ∷ es) (definitions_of top) able ∙ ap (λ ms. identifier top.draft (object ms)) (few_of top few had) in
-    let other = none_second layer n top (e ∷ es) are text token second more utf8 first same apart_ in
-    inl (equal_answer layer n top (bundle_of top (e ∷ es)) _ _
+    let other = none_second layer fs n top (e ∷ es) are text token second more utf8 first same apart_ in
+    inl (equal_answer layer fs n top (bundle_of top (e ∷ es)) _ _
     (ap (AnswerOf r top.draft)
     (walk_through top.draft pointer along (tree_with top (e ∷ es)) top.tree token second more (object all) (object few) (object_top top (e ∷ es) ∙ is) is at_now at_before refl refl ids
     (get_with_all top.draft (unescape second) (e ∷ es) (definitions_of top) other ∙ ap (get_member (unescape second)) (few_of top few had)))))
@@ -332,10 +333,10 @@ into_new top e es is able none pointer along token more own =
           ∙ ap (λ x. as_invalid_uri x >>= λ to. walked_along top.draft pointer to all more) stays.is,
     )
 
-in_new : (layer : Layer) (n : ℕ) (top : Document) (e : ℕ × Document) (es : List (ℕ × Document)) → to_embed layer n ≡ e ∷ es → is_object top.tree ≡ true → AllByRecursion (λ x. IsEmbeddable top x.1) (e ∷ es) → get (definitions_keyword top.draft) top.tree ≡ None
-    → (r : Resolver) (along : Along) → along.base ≡ r.base → (text token : List ℕ) (more : List (List ℕ)) → is_utf8 (percent_decode text) ≡ true → tokens (percent_decode text) ≡ token ∷ more → bytes_eq (unescape token) (definitions_keyword top.draft) ≡ true → IsApart layer n top (47 ∷ text)
-    → IsRootAnswer layer n top (bundle_of top (e ∷ es)) r (47 ∷ text) (AnswerOf r top.draft (walked_along top.draft (47 ∷ text) along (tree_with top (e ∷ es)) (token ∷ more))) (AnswerOf r top.draft (walked_along top.draft (47 ∷ text) along top.tree (token ∷ more)))
-in_new layer n top e es are is able none r along at text token [] utf8 first same apart_ =
+in_new : (layer : Layer) (fs : Further) (n : ℕ) (top : Document) (e : ℕ × Document) (es : List (ℕ × Document)) → to_embed layer fs n ≡ e ∷ es → is_object top.tree ≡ true → AllByRecursion (λ x. IsEmbeddable top x.1) (e ∷ es) → get (definitions_keyword top.draft) top.tree ≡ None
+    → (r : Resolver) (along : Along) → along.base ≡ r.base → (text token : List ℕ) (more : List (List ℕ)) → is_utf8 (percent_decode text) ≡ true → tokens (percent_decode text) ≡ token ∷ more → bytes_eq (unescape token) (definitions_keyword top.draft) ≡ true → IsApart layer fs n top (47 ∷ text)
+    → IsRootAnswer layer fs n top (bundle_of top (e ∷ es)) r (47 ∷ text) (AnswerOf r top.draft (walked_along top.draft (47 ∷ text) along (tree_with top (e ∷ es)) (token ∷ more))) (AnswerOf r top.draft (walked_along top.draft (47 ∷ text) along top.tree (token ∷ more)))
+in_new layer fs n top e es are is able none r along at text token [] utf8 first same apart_ =
     let own : unescape token ≡ definitions_keyword top.draft = (bytes_eq-Decides (unescape token) (definitions_keyword top.draft)).0 same in
     let all = object (with_all (map (member_of top.draft) (e ∷ es)) (definitions_of top)) in
     let into = into_new top e es is able none (47 ∷ text) along token [] own in
@@ -344,55 +345,55 @@ in_new layer n top e es are is able none r along at text token [] utf8 first sam
       answers = new_ones none
           (ap (AnswerOf r top.draft) into.2
           ∙ ap (λ base. Ok (record { value = all; draft = top.draft; resolver = record r { base = base } })) (into.1 ∙ at)
-          ∙ ap (λ v. Ok (record { value = v; draft = top.draft; resolver = r })) (all_are layer n top (e ∷ es) are))
+          ∙ ap (λ v. Ok (record { value = v; draft = top.draft; resolver = r })) (all_are layer fs n top (e ∷ es) are))
           (ap (AnswerOf r top.draft) (no_step top.draft (47 ∷ text) along top.tree token [] is (ap (λ k. get k top.tree) own ∙ none)));
     })
-in_new layer n top e es are is able none r along at text token (second ∷ more) utf8 first same apart_ =
+in_new layer fs n top e es are is able none r along at text token (second ∷ more) utf8 first same apart_ =
     let own : unescape token ≡ definitions_keyword top.draft = (bytes_eq-Decides (unescape token) (definitions_keyword top.draft)).0 same in
     let all = with_all (map (member_of top.draft) (e ∷ es)) (definitions_of top) in
     let into = into_new top e es is able none (47 ∷ text) along token (second ∷ more) own in
-    let other = none_second layer n top (e ∷ es) are text token second more utf8 first same apart_ in
+    let other = none_second layer fs n top (e ∷ es) are text token second more utf8 first same apart_ in
     let nothing : get (unescape second) (object all) ≡ None =
     get_with_all top.draft (unescape second) (e ∷ es) (definitions_of top) other ∙ ap (get_member (unescape second)) (none_of_them top none) in
-    inl (equal_answer layer n top (bundle_of top (e ∷ es)) _ _
+    inl (equal_answer layer fs n top (bundle_of top (e ∷ es)) _ _
     (ap (AnswerOf r top.draft)
     (into.2 ∙ no_step top.draft (47 ∷ text) into.0 (object all) second more refl nothing
     ∙ sym (no_step top.draft (47 ∷ text) along top.tree token (second ∷ more) is (ap (λ k. get k top.tree) own ∙ none)))))
 
 -- ---- any pointer from the root
 
-root_step : (layer : Layer) (n : ℕ) (top : Document) (e : ℕ × Document) (es : List (ℕ × Document)) → to_embed layer n ≡ e ∷ es → HasRoom top (e ∷ es) → AllByRecursion (λ x. IsEmbeddable top x.1) (e ∷ es)
-    → (r : Resolver) (along : Along) → along.base ≡ r.base → (text token : List ℕ) (more : List (List ℕ)) → is_utf8 (percent_decode text) ≡ true → tokens (percent_decode text) ≡ token ∷ more → IsApart layer n top (47 ∷ text)
+root_step : (layer : Layer) (fs : Further) (n : ℕ) (top : Document) (e : ℕ × Document) (es : List (ℕ × Document)) → to_embed layer fs n ≡ e ∷ es → HasRoom top (e ∷ es) → AllByRecursion (λ x. IsEmbeddable top x.1) (e ∷ es)
+    → (r : Resolver) (along : Along) → along.base ≡ r.base → (text token : List ℕ) (more : List (List ℕ)) → is_utf8 (percent_decode text) ≡ true → tokens (percent_decode text) ≡ token ∷ more → IsApart layer fs n top (47 ∷ text)
     → (b : Bool) → bytes_eq (unescape token) (definitions_keyword top.draft) ≡ b
     → (get (definitions_keyword top.draft) top.tree ≡ None) ⊎ ((few : Members) × (get (definitions_keyword top.draft) top.tree ≡ Some (object few)))
-    → IsRootAnswer layer n top (bundle_of top (e ∷ es)) r (47 ∷ text) (AnswerOf r top.draft (walked_along top.draft (47 ∷ text) along (tree_with top (e ∷ es)) (token ∷ more))) (AnswerOf r top.draft (walked_along top.draft (47 ∷ text) along top.tree (token ∷ more)))
-root_step layer n top e es are room able r along at text token more utf8 first apart_ true own (inl none) =
-    in_new layer n top e es are room.object able none r along at text token more utf8 first own apart_
-root_step layer n top e es are room able r along at text token more utf8 first apart_ true own (inr some) =
-    in_definitions layer n top e es are room.object able some.0 some.1 r along text token more utf8 first own apart_
-root_step layer n top e es are room able r along at text token more utf8 first apart_ false own has =
-    inl (equal_answer layer n top (bundle_of top (e ∷ es)) _ _
+    → IsRootAnswer layer fs n top (bundle_of top (e ∷ es)) r (47 ∷ text) (AnswerOf r top.draft (walked_along top.draft (47 ∷ text) along (tree_with top (e ∷ es)) (token ∷ more))) (AnswerOf r top.draft (walked_along top.draft (47 ∷ text) along top.tree (token ∷ more)))
+root_step layer fs n top e es are room able r along at text token more utf8 first apart_ true own (inl none) =
+    in_new layer fs n top e es are room.object able none r along at text token more utf8 first own apart_
+root_step layer fs n top e es are room able r along at text token more utf8 first apart_ true own (inr some) =
+    in_definitions layer fs n top e es are room.object able some.0 some.1 r along text token more utf8 first own apart_
+root_step layer fs n top e es are room able r along at text token more utf8 first apart_ false own has =
+    inl (equal_answer layer fs n top (bundle_of top (e ∷ es)) _ _
     (ap (AnswerOf r top.draft)
     (walk_alike top.draft (47 ∷ text) along (tree_with top (e ∷ es)) top.tree token more (object_top top (e ∷ es) ∙ room.object) room.object
     (get_top top (e ∷ es) (unescape token) (apart (unescape token) (definitions_keyword top.draft) own)))))
 
-root_tokens : (layer : Layer) (n : ℕ) (top : Document) (e : ℕ × Document) (es : List (ℕ × Document)) → to_embed layer n ≡ e ∷ es → HasRoom top (e ∷ es) → AllByRecursion (λ x. IsEmbeddable top x.1) (e ∷ es)
-    → (r : Resolver) (along : Along) → along.base ≡ r.base → Contains (uris_of top (root top)) r.base → (text : List ℕ) (list : List (List ℕ)) → is_utf8 (percent_decode text) ≡ true → tokens (percent_decode text) ≡ list → IsApart layer n top (47 ∷ text)
-    → IsRootAnswer layer n top (bundle_of top (e ∷ es)) r (47 ∷ text) (AnswerOf r top.draft (walked_along top.draft (47 ∷ text) along (tree_with top (e ∷ es)) list)) (AnswerOf r top.draft (walked_along top.draft (47 ∷ text) along top.tree list))
-root_tokens layer n top e es are room able r along at bears text [] utf8 is apart_ = inl (the_root r.base bears (inl at) refl refl, refl, refl)
-root_tokens layer n top e es are room able r along at bears text (token ∷ more) utf8 is apart_ =
-    root_step layer n top e es are room able r along at text token more utf8 is apart_ (bytes_eq (unescape token) (definitions_keyword top.draft)) refl room.has_map
+root_tokens : (layer : Layer) (fs : Further) (n : ℕ) (top : Document) (e : ℕ × Document) (es : List (ℕ × Document)) → to_embed layer fs n ≡ e ∷ es → HasRoom top (e ∷ es) → AllByRecursion (λ x. IsEmbeddable top x.1) (e ∷ es)
+    → (r : Resolver) (along : Along) → along.base ≡ r.base → Contains (uris_of top (root top)) r.base → (text : List ℕ) (list : List (List ℕ)) → is_utf8 (percent_decode text) ≡ true → tokens (percent_decode text) ≡ list → IsApart layer fs n top (47 ∷ text)
+    → IsRootAnswer layer fs n top (bundle_of top (e ∷ es)) r (47 ∷ text) (AnswerOf r top.draft (walked_along top.draft (47 ∷ text) along (tree_with top (e ∷ es)) list)) (AnswerOf r top.draft (walked_along top.draft (47 ∷ text) along top.tree list))
+root_tokens layer fs n top e es are room able r along at bears text [] utf8 is apart_ = inl (the_root r.base bears (inl at) refl refl, refl, refl)
+root_tokens layer fs n top e es are room able r along at bears text (token ∷ more) utf8 is apart_ =
+    root_step layer fs n top e es are room able r along at text token more utf8 is apart_ (bytes_eq (unescape token) (definitions_keyword top.draft)) refl room.has_map
 
 -- a pointer is percent-decoded, and then walked
-root_decoded : (layer : Layer) (n : ℕ) (top : Document) (e : ℕ × Document) (es : List (ℕ × Document)) → to_embed layer n ≡ e ∷ es → HasRoom top (e ∷ es) → AllByRecursion (λ x. IsEmbeddable top x.1) (e ∷ es)
-    → (r : Resolver) (along : Along) → along.base ≡ r.base → Contains (uris_of top (root top)) r.base → (text : List ℕ) → IsApart layer n top (47 ∷ text) → (b : Bool) → is_utf8 (percent_decode text) ≡ b
-    → IsRootAnswer layer n top (bundle_of top (e ∷ es)) r (47 ∷ text) (AnswerOf r top.draft (cond b (walked_along top.draft (47 ∷ text) along (tree_with top (e ∷ es)) (tokens (percent_decode text))) (Err (InvalidPercentEncoding (47 ∷ text)))))
+root_decoded : (layer : Layer) (fs : Further) (n : ℕ) (top : Document) (e : ℕ × Document) (es : List (ℕ × Document)) → to_embed layer fs n ≡ e ∷ es → HasRoom top (e ∷ es) → AllByRecursion (λ x. IsEmbeddable top x.1) (e ∷ es)
+    → (r : Resolver) (along : Along) → along.base ≡ r.base → Contains (uris_of top (root top)) r.base → (text : List ℕ) → IsApart layer fs n top (47 ∷ text) → (b : Bool) → is_utf8 (percent_decode text) ≡ b
+    → IsRootAnswer layer fs n top (bundle_of top (e ∷ es)) r (47 ∷ text) (AnswerOf r top.draft (cond b (walked_along top.draft (47 ∷ text) along (tree_with top (e ∷ es)) (tokens (percent_decode text))) (Err (InvalidPercentEncoding (47 ∷ text)))))
     (AnswerOf r top.draft (cond b (walked_along top.draft (47 ∷ text) along top.tree (tokens (percent_decode text))) (Err (InvalidPercentEncoding (47 ∷ text)))))
-root_decoded layer n top e es are room able r along at bears text apart_ true utf8 = root_tokens layer n top e es are room able r along at bears text (tokens (percent_decode text)) utf8 refl apart_
-root_decoded layer n top e es are room able r along at bears text apart_ false utf8 = inl refl
+root_decoded layer fs n top e es are room able r along at bears text apart_ true utf8 = root_tokens layer fs n top e es are room able r along at bears text (tokens (percent_decode text)) utf8 refl apart_
+root_decoded layer fs n top e es are room able r along at bears text apart_ false utf8 = inl refl
 
-pub root_pointed : (layer : Layer) (n : ℕ) (top : Document) (es : List (ℕ × Document)) → to_embed layer n ≡ es → HasRoomFor top es → AllByRecursion (λ x. IsEmbeddable top x.1) es → (r : Resolver) → Contains (uris_of top (root top)) r.base → (text : List ℕ) → IsApart layer n top (47 ∷ text)
-    → IsRootAnswer layer n top (bundle_of top es) r (47 ∷ text) (AnswerOf r top.draft (pointed_value top.draft (47 ∷ text) r.base (tree_with top es) text)) (AnswerOf r top.draft (pointed_value top.draft (47 ∷ text) r.base top.tree text))
-root_pointed layer n top [] are room able r bears text apart_ = inl (same_answer layer n top (bundle_of top []) (AnswerOf r top.draft (pointed_value top.draft (47 ∷ text) r.base top.tree text)))
-root_pointed layer n top (e ∷ es) are room able r bears text apart_ =
-    root_decoded layer n top e es are room able r (record { base = r.base; since = [] }) refl bears text apart_ (is_utf8 (percent_decode text)) refl
+pub root_pointed : (layer : Layer) (fs : Further) (n : ℕ) (top : Document) (es : List (ℕ × Document)) → to_embed layer fs n ≡ es → HasRoomFor top es → AllByRecursion (λ x. IsEmbeddable top x.1) es → (r : Resolver) → Contains (uris_of top (root top)) r.base → (text : List ℕ) → IsApart layer fs n top (47 ∷ text)
+    → IsRootAnswer layer fs n top (bundle_of top es) r (47 ∷ text) (AnswerOf r top.draft (pointed_value top.draft (47 ∷ text) r.base (tree_with top es) text)) (AnswerOf r top.draft (pointed_value top.draft (47 ∷ text) r.base top.tree text))
+root_pointed layer fs n top [] are room able r bears text apart_ = inl (same_answer layer fs n top (bundle_of top []) (AnswerOf r top.draft (pointed_value top.draft (47 ∷ text) r.base top.tree text)))
+root_pointed layer fs n top (e ∷ es) are room able r bears text apart_ =
+    root_decoded layer fs n top e es are room able r (record { base = r.base; since = [] }) refl bears text apart_ (is_utf8 (percent_decode text)) refl

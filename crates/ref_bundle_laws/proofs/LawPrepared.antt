@@ -18,7 +18,7 @@ use Rattle.ref_definitions.proofs.AtOrBelow.{place_has_base}
 use Rattle.ref_bundle_laws.specs.Merges.{IsMerge, ended, from_first, from_second, IsMergeOf}
 use Rattle.ref_definitions.specs.Moving.{below_path}
 use Rattle.ref_bundle.specs.Needed as refers
-use Rattle.ref_bundle.specs.Needed.{reference_of, reference_under, meta_schema_of, targets_from, targets, needed_documents}
+use Rattle.ref_bundle.specs.Needed.{Further, reference_of, reference_under, meta_schema_of, targets_from, targets, needed_documents}
 use Rattle.ref_bundle.specs.Bundle.{Bundle, to_embed, bundle_of}
 use Rattle.ref_bundle_laws.specs.Kept.{IsBundle, document_of_bundle, world_of_bundle, place_in, places_of_embedded, places_of_root}
 use Rattle.ref_bundle_laws.proofs.LawAlike.{BothAlike}
@@ -107,76 +107,76 @@ closed_there : (o : Option Place) → not (is_some o) ≡ false → is_some o �
 closed_there None is = absurd (true≢false is)
 closed_there (Some p) is = refl
 
-want_met : (layer : Layer) (parents : World) (n : ℕ) (top : Document) → IsMade layer n top → open_wants (layer ∷ parents) layer ≡ [] → (e : ℕ × Document) (p : Place) (w : Want) → Contains (needed_documents layer n) e → Contains (places e.1) p
-    → (base : List ℕ) → p.base ≡ Ok base → Contains (wants_at p.base p.value) w → is_open ((joined top (to_embed layer n) ∷ []) ∷ parents) w ≡ false
-want_met layer parents n top is met e p w need place base has there =
-    let own = in_layer 0 layer e (needed_counted layer n e need) in
+want_met : (layer : Layer) (fs : Further) (parents : World) (n : ℕ) (top : Document) → IsMade layer fs n top → open_wants (layer ∷ parents) layer ≡ [] → (e : ℕ × Document) (p : Place) (w : Want) → Contains (needed_documents layer fs n) e → Contains (places e.1) p
+    → (base : List ℕ) → p.base ≡ Ok base → Contains (wants_at p.base p.value) w → is_open ((joined top (to_embed layer fs n) ∷ []) ∷ parents) w ≡ false
+want_met layer fs parents n top is met e p w need place base has there =
+    let own = in_layer 0 layer e (needed_counted layer fs n e need) in
     let in_all : Contains (wants layer) w =
     in_joined (λ d. flat_map (λ q. wants_at q.base q.value) (places d)) layer e.1 w own (in_joined (λ q. wants_at q.base q.value) (places e.1) p w place there) in
     let closed = each_in (λ v. is_open (layer ∷ parents) v ≡ false) (wants layer) w (none_open (layer ∷ parents) (wants layer) met) in_all in
     let is_target : Contains (targets p) w.uri =
     subst (λ b. Contains (targets_from b p.value) w.uri) (sym has) (want_is_target base p.value w (subst (λ b. Contains (wants_at b p.value) w) has there)) in
-    let now = means_now layer parents n top (to_embed layer n) w.uri (made_places layer n top is) (all_put layer n top is) (clear_target layer n top is e p w.uri need place is_target) in
-    ap not (both_there top (to_embed layer n) (meant_place ((joined top (to_embed layer n) ∷ []) ∷ parents) w.uri) (meant_place (layer ∷ parents) w.uri) now (closed_there (meant_place (layer ∷ parents) w.uri) closed))
+    let now = means_now layer parents n top (to_embed layer fs n) w.uri (made_places layer fs n top is) (all_put layer fs n top is) (clear_target layer fs n top is e p w.uri need place is_target) in
+    ap not (both_there top (to_embed layer fs n) (meant_place ((joined top (to_embed layer fs n) ∷ []) ∷ parents) w.uri) (meant_place (layer ∷ parents) w.uri) now (closed_there (meant_place (layer ∷ parents) w.uri) closed))
 
-ready : (layer : Layer) (parents : World) (n : ℕ) (top : Document) → IsMade layer n top → open_wants (layer ∷ parents) layer ≡ [] → (e : ℕ × Document) (p q : Place) → Contains (needed_documents layer n) e → Contains (places e.1) p
-    → q.base ≡ p.base → text_under (codes "$ref") q.value ≡ text_under (codes "$ref") p.value → schema_at q.value ≡ schema_at p.value → IsReady ((joined top (to_embed layer n) ∷ []) ∷ parents) q
-ready layer parents n top is met e p q need place bases refs metas =
-    let own = in_layer 0 layer e (needed_counted layer n e need) in
+ready : (layer : Layer) (fs : Further) (parents : World) (n : ℕ) (top : Document) → IsMade layer fs n top → open_wants (layer ∷ parents) layer ≡ [] → (e : ℕ × Document) (p q : Place) → Contains (needed_documents layer fs n) e → Contains (places e.1) p
+    → q.base ≡ p.base → text_under (codes "$ref") q.value ≡ text_under (codes "$ref") p.value → schema_at q.value ≡ schema_at p.value → IsReady ((joined top (to_embed layer fs n) ∷ []) ∷ parents) q
+ready layer fs parents n top is met e p q need place bases refs metas =
+    let own = in_layer 0 layer e (needed_counted layer fs n e need) in
     let base = place_has_base layer e.1 p is.no_fault own place in
     let no_fault : faults_at p.base p.value ≡ [] =
     each_in (λ x. faults_at x.base x.value ≡ []) (places e.1) p
     (each_none (λ x. faults_at x.base x.value) (places e.1)
     (each_in (λ d. flat_map (λ x. faults_at x.base x.value) (places d) ≡ []) layer e.1 (each_none (λ d. flat_map (λ x. faults_at x.base x.value) (places d)) layer is.no_fault) own)) place in (
       ap (λ b. faults_at b q.value) bases ∙ faults_alike p.base q.value p.value refs metas ∙ no_fault,
-      subst (AllByRecursion (λ w. is_open ((joined top (to_embed layer n) ∷ []) ∷ parents) w ≡ false))
+      subst (AllByRecursion (λ w. is_open ((joined top (to_embed layer fs n) ∷ []) ∷ parents) w ≡ false))
           (sym (ap (λ b. wants_at b q.value) bases ∙ wants_alike p.base q.value p.value refs metas))
-          (all_of (λ w. is_open ((joined top (to_embed layer n) ∷ []) ∷ parents) w ≡ false) (wants_at p.base p.value) (λ w there. want_met layer parents n top is met e p w need place base.0 base.1 there)),
+          (all_of (λ w. is_open ((joined top (to_embed layer fs n) ∷ []) ∷ parents) w ≡ false) (wants_at p.base p.value) (λ w there. want_met layer fs parents n top is met e p w need place base.0 base.1 there)),
     )
 
-after_ready : (layer : Layer) (parents : World) (n : ℕ) (top : Document) → IsMade layer n top → open_wants (layer ∷ parents) layer ≡ [] → (e : ℕ × Document) (front : List Part) (ps : List Place) → Contains (needed_documents layer n) e
-    → ((p : Place) → Contains ps p → Contains (places e.1) p) → AllByRecursion (IsReady ((joined top (to_embed layer n) ∷ []) ∷ parents)) (map (below_path front) ps)
-after_ready layer parents n top is met e front [] need own = tt
-after_ready layer parents n top is met e front (p ∷ ps) need own = (
-  ready layer parents n top is met e p (below_path front p) need (own p (0, omega arith, refl)) refl refl refl,
-  after_ready layer parents n top is met e front ps need (λ q there. own q (Contains-append_right (p ∷ []) ps q there)),
+after_ready : (layer : Layer) (fs : Further) (parents : World) (n : ℕ) (top : Document) → IsMade layer fs n top → open_wants (layer ∷ parents) layer ≡ [] → (e : ℕ × Document) (front : List Part) (ps : List Place) → Contains (needed_documents layer fs n) e
+    → ((p : Place) → Contains ps p → Contains (places e.1) p) → AllByRecursion (IsReady ((joined top (to_embed layer fs n) ∷ []) ∷ parents)) (map (below_path front) ps)
+after_ready layer fs parents n top is met e front [] need own = tt
+after_ready layer fs parents n top is met e front (p ∷ ps) need own = (
+  ready layer fs parents n top is met e p (below_path front p) need (own p (0, omega arith, refl)) refl refl refl,
+  after_ready layer fs parents n top is met e front ps need (λ q there. own q (Contains-append_right (p ∷ []) ps q there)),
 )
 
-same_ready : (layer : Layer) (parents : World) (n : ℕ) (top : Document) → IsMade layer n top → open_wants (layer ∷ parents) layer ≡ [] → (e : ℕ × Document) (ps : List Place) → Contains (needed_documents layer n) e
-    → ((p : Place) → Contains ps p → Contains (places e.1) p) → AllByRecursion (IsReady ((joined top (to_embed layer n) ∷ []) ∷ parents)) ps
-same_ready layer parents n top is met e [] need own = tt
-same_ready layer parents n top is met e (p ∷ ps) need own = (
-  ready layer parents n top is met e p p need (own p (0, omega arith, refl)) refl refl refl,
-  same_ready layer parents n top is met e ps need (λ q there. own q (Contains-append_right (p ∷ []) ps q there)),
+same_ready : (layer : Layer) (fs : Further) (parents : World) (n : ℕ) (top : Document) → IsMade layer fs n top → open_wants (layer ∷ parents) layer ≡ [] → (e : ℕ × Document) (ps : List Place) → Contains (needed_documents layer fs n) e
+    → ((p : Place) → Contains ps p → Contains (places e.1) p) → AllByRecursion (IsReady ((joined top (to_embed layer fs n) ∷ []) ∷ parents)) ps
+same_ready layer fs parents n top is met e [] need own = tt
+same_ready layer fs parents n top is met e (p ∷ ps) need own = (
+  ready layer fs parents n top is met e p p need (own p (0, omega arith, refl)) refl refl refl,
+  same_ready layer fs parents n top is met e ps need (λ q there. own q (Contains-append_right (p ∷ []) ps q there)),
 )
 
-embedded_ready : (layer : Layer) (parents : World) (n : ℕ) (top : Document) → IsMade layer n top → open_wants (layer ∷ parents) layer ≡ [] → (e : ℕ × Document) → Contains (to_embed layer n) e
-    → AllByRecursion (IsReady ((joined top (to_embed layer n) ∷ []) ∷ parents)) (places_of_embedded top e)
-embedded_ready layer parents n top is met e there =
-    let need = embedded_needed layer n e there in
-    let put = put_of layer n top is e there in
-    let able = embeddable top e.1 (no_obstacle layer is.world n top e (none_in layer is.world n top e is.unrefused need.0) need.1) in (
-      ready layer parents n top is met e (root e.1) (place_in top e.1) need.0 (0, omega arith, refl) (put.has_base ∙ sym put.same_base)
+embedded_ready : (layer : Layer) (fs : Further) (parents : World) (n : ℕ) (top : Document) → IsMade layer fs n top → open_wants (layer ∷ parents) layer ≡ [] → (e : ℕ × Document) → Contains (to_embed layer fs n) e
+    → AllByRecursion (IsReady ((joined top (to_embed layer fs n) ∷ []) ∷ parents)) (places_of_embedded top e)
+embedded_ready layer fs parents n top is met e there =
+    let need = embedded_needed layer fs n e there in
+    let put = put_of layer fs n top is e there in
+    let able = embeddable top e.1 (no_obstacle layer fs is.world n top e (none_in layer fs is.world n top e is.unrefused need.0) need.1) in (
+      ready layer fs parents n top is met e (root e.1) (place_in top e.1) need.0 (0, omega arith, refl) (put.has_base ∙ sym put.same_base)
           (text_embedded top.draft e.1 (codes "$ref") refl refl refl) (meta_embedded top.draft e.1 able.object),
-      after_ready layer parents n top is met e (put_in top e).place.path (drop 1 (places e.1)) need.0 (λ q later. Contains-append_right (root e.1 ∷ []) (drop 1 (places e.1)) q later),
+      after_ready layer fs parents n top is met e (put_in top e).place.path (drop 1 (places e.1)) need.0 (λ q later. Contains-append_right (root e.1 ∷ []) (drop 1 (places e.1)) q later),
     )
 
-each_embedded_ready : (layer : Layer) (parents : World) (n : ℕ) (top : Document) → IsMade layer n top → open_wants (layer ∷ parents) layer ≡ [] → (es : List (ℕ × Document)) → ((e : ℕ × Document) → Contains es e → Contains (to_embed layer n) e)
-    → AllByRecursion (AllByRecursion (IsReady ((joined top (to_embed layer n) ∷ []) ∷ parents))) (map (places_of_embedded top) es)
-each_embedded_ready layer parents n top is met [] own = tt
-each_embedded_ready layer parents n top is met (e ∷ es) own =
-    (embedded_ready layer parents n top is met e (own e (0, omega arith, refl)), each_embedded_ready layer parents n top is met es (λ f there. own f (Contains-append_right (e ∷ []) es f there)))
+each_embedded_ready : (layer : Layer) (fs : Further) (parents : World) (n : ℕ) (top : Document) → IsMade layer fs n top → open_wants (layer ∷ parents) layer ≡ [] → (es : List (ℕ × Document)) → ((e : ℕ × Document) → Contains es e → Contains (to_embed layer fs n) e)
+    → AllByRecursion (AllByRecursion (IsReady ((joined top (to_embed layer fs n) ∷ []) ∷ parents))) (map (places_of_embedded top) es)
+each_embedded_ready layer fs parents n top is met [] own = tt
+each_embedded_ready layer fs parents n top is met (e ∷ es) own =
+    (embedded_ready layer fs parents n top is met e (own e (0, omega arith, refl)), each_embedded_ready layer fs parents n top is met es (λ f there. own f (Contains-append_right (e ∷ []) es f there)))
 
-all_ready : (layer : Layer) (parents : World) (n : ℕ) (top : Document) → IsMade layer n top → open_wants (layer ∷ parents) layer ≡ [] → AllByRecursion (IsReady ((joined top (to_embed layer n) ∷ []) ∷ parents)) (places (joined top (to_embed layer n)))
-all_ready layer parents n top is met =
-    let own = root_needed layer (n, top) (root_counted layer n top is.at) in
-    merge_of_all (IsReady ((joined top (to_embed layer n) ∷ []) ∷ parents)) (places (joined top (to_embed layer n))) (places_of_root top (bundle_of top (to_embed layer n)) ∷ map (places_of_embedded top) (to_embed layer n)) (made_places layer n top is) (
+all_ready : (layer : Layer) (fs : Further) (parents : World) (n : ℕ) (top : Document) → IsMade layer fs n top → open_wants (layer ∷ parents) layer ≡ [] → AllByRecursion (IsReady ((joined top (to_embed layer fs n) ∷ []) ∷ parents)) (places (joined top (to_embed layer fs n)))
+all_ready layer fs parents n top is met =
+    let own = root_needed layer fs (n, top) (root_counted layer n top is.at) in
+    merge_of_all (IsReady ((joined top (to_embed layer fs n) ∷ []) ∷ parents)) (places (joined top (to_embed layer fs n))) (places_of_root top (bundle_of top (to_embed layer fs n)) ∷ map (places_of_embedded top) (to_embed layer fs n)) (made_places layer fs n top is) (
       (
-        ready layer parents n top is met (n, top) (root top) (root (joined top (to_embed layer n))) own (0, omega arith, refl) (same_base top (to_embed layer n))
-            (text_top top (to_embed layer n) (codes "$ref") refl refl) (ap (option_and_then schema_uri) (text_top top (to_embed layer n) (codes "$schema") refl refl)),
-        same_ready layer parents n top is met (n, top) (drop 1 (places top)) own (λ q later. Contains-append_right (root top ∷ []) (drop 1 (places top)) q later),
+        ready layer fs parents n top is met (n, top) (root top) (root (joined top (to_embed layer fs n))) own (0, omega arith, refl) (same_base top (to_embed layer fs n))
+            (text_top top (to_embed layer fs n) (codes "$ref") refl refl) (ap (option_and_then schema_uri) (text_top top (to_embed layer fs n) (codes "$schema") refl refl)),
+        same_ready layer fs parents n top is met (n, top) (drop 1 (places top)) own (λ q later. Contains-append_right (root top ∷ []) (drop 1 (places top)) q later),
       ),
-      each_embedded_ready layer parents n top is met (to_embed layer n) (λ e there. there),
+      each_embedded_ready layer fs parents n top is met (to_embed layer fs n) (λ e there. there),
     )
 
 -- ---- the bundle
@@ -189,19 +189,19 @@ all_closed : (world : World) (qs : List Place) → AllByRecursion (IsReady world
 all_closed world [] each = tt
 all_closed world (q ∷ qs) each = all_append (λ w. is_open world w ≡ false) (wants_at q.base q.value) (flat_map (λ p. wants_at p.base p.value) qs) each.0.1 (all_closed world qs each.1)
 
-pub no_fault : (layer : Layer) (parents : World) (n : ℕ) (top : Document) (bundle : Bundle) → IsBundle layer parents n top bundle → faults (document_of_bundle top bundle ∷ []) ≡ []
-no_fault layer parents n top bundle is =
-    let both = made layer parents n top bundle is in
-    let each = all_ready layer parents n top both.0 is.no_want in
+pub no_fault : (layer : Layer) (fs : Further) (parents : World) (n : ℕ) (top : Document) (bundle : Bundle) → IsBundle layer fs parents n top bundle → faults (document_of_bundle top bundle ∷ []) ≡ []
+no_fault layer fs parents n top bundle is =
+    let both = made layer fs parents n top bundle is in
+    let each = all_ready layer fs parents n top both.0 is.no_want in
     subst (λ b. faults (document_of_bundle top b ∷ []) ≡ []) (sym both.2)
-    (append-nil (flat_map (λ q. faults_at q.base q.value) (places (joined top (to_embed layer n))))
-    ∙ none_of (λ q. faults_at q.base q.value) (places (joined top (to_embed layer n))) (no_faults ((joined top (to_embed layer n) ∷ []) ∷ parents) (places (joined top (to_embed layer n))) each))
+    (append-nil (flat_map (λ q. faults_at q.base q.value) (places (joined top (to_embed layer fs n))))
+    ∙ none_of (λ q. faults_at q.base q.value) (places (joined top (to_embed layer fs n))) (no_faults ((joined top (to_embed layer fs n) ∷ []) ∷ parents) (places (joined top (to_embed layer fs n))) each))
 
-pub no_open_want : (layer : Layer) (parents : World) (n : ℕ) (top : Document) (bundle : Bundle) → IsBundle layer parents n top bundle → open_wants (world_of_bundle top bundle parents) (document_of_bundle top bundle ∷ []) ≡ []
-no_open_want layer parents n top bundle is =
-    let both = made layer parents n top bundle is in
-    let each = all_ready layer parents n top both.0 is.no_want in
-    let world = (joined top (to_embed layer n) ∷ []) ∷ parents in
+pub no_open_want : (layer : Layer) (fs : Further) (parents : World) (n : ℕ) (top : Document) (bundle : Bundle) → IsBundle layer fs parents n top bundle → open_wants (world_of_bundle top bundle parents) (document_of_bundle top bundle ∷ []) ≡ []
+no_open_want layer fs parents n top bundle is =
+    let both = made layer fs parents n top bundle is in
+    let each = all_ready layer fs parents n top both.0 is.no_want in
+    let world = (joined top (to_embed layer fs n) ∷ []) ∷ parents in
     subst (λ b. open_wants (world_of_bundle top b parents) (document_of_bundle top b ∷ []) ≡ []) (sym both.2)
-    (ap (filter (is_open world)) (append-nil (flat_map (λ q. wants_at q.base q.value) (places (joined top (to_embed layer n)))))
-    ∙ none_pass (is_open world) (flat_map (λ q. wants_at q.base q.value) (places (joined top (to_embed layer n)))) (all_closed world (places (joined top (to_embed layer n))) each))
+    (ap (filter (is_open world)) (append-nil (flat_map (λ q. wants_at q.base q.value) (places (joined top (to_embed layer fs n)))))
+    ∙ none_pass (is_open world) (flat_map (λ q. wants_at q.base q.value) (places (joined top (to_embed layer fs n)))) (all_closed world (places (joined top (to_embed layer fs n))) each))

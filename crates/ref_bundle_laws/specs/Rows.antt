@@ -6,7 +6,8 @@ use Rattle.ref_paths.specs.Path.{Part}
 use Rattle.ref_draft.specs.declared.draft.Draft.TheVariants.{Draft202012}
 use Rattle.ref_definitions.specs.World.{Document, Layer}
 use Rattle.ref_definitions.specs.Rows.{at, text, one, two, three}
-use Rattle.ref_bundle.specs.Bundle.{Bundle, BundleRefusal, Problem, Embedded, bundle_at}
+use Rattle.ref_bundle.specs.Needed.{Seen, Further}
+use Rattle.ref_bundle.specs.Bundle.{Bundle, BundleRefusal, Problem, Embedded, bundle_at, bundle_with}
 
 -- what is shown of a bundle: its tree, and the numbers of the documents in it; or where it is refused, and why
 pub data Shown : Type 0 where
@@ -24,6 +25,21 @@ bundle_of_first layer = shown_bundle (bundle_at (layer ∷ []) 0)
 -- the same above a parent with one document
 abbrev pub bundle_above : Document → Layer → Shown
 bundle_above parent layer = shown_bundle (bundle_at (layer ∷ (parent ∷ []) ∷ []) 0)
+
+-- the bundle of the first document, where documents have these further places
+abbrev pub bundle_with_further : Further → Layer → Shown
+bundle_with_further further layer = shown_bundle (bundle_with (layer ∷ []) further 0)
+
+-- a further place of the document with a number, which is at a path and has a reference
+abbrev pub seen_at : ℕ → List Part → Literal → Literal → Seen
+seen_at number path base reference =
+    record {
+      document = number;
+      path = path;
+      value = one "$ref" (text reference);
+      draft = Draft202012;
+      base = Ok (codes base);
+    }
 
 -- a document of 2020-12, one that has a reference, and one that refers to `s`
 abbrev pub new : Literal → Data → Document

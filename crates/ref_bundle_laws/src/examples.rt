@@ -10,7 +10,7 @@ ghost use Rattle.ref_bundle.specs.Embedding.{embedded_tree, NotAnObject, Identif
 ghost use Rattle.ref_bundle.specs.Embedding.{UnnamedDraft, ResolvedAgain};
 ghost use Rattle.ref_bundle.specs.Bundle.{embedded_document, NoDocument, NotEmbedded, NoMap, KeyTaken, SharedUri};
 ghost use Rattle.ref_bundle.specs.Bundle.{ReplacedUri, ShadowedUri, AddedMember};
-ghost use Rattle.ref_bundle_laws.specs.Rows.{bundle, refused_bundle, bundle_of_first, bundle_above, new, refers_to, refers_to_s, with_definition};
+ghost use Rattle.ref_bundle_laws.specs.Rows.{bundle, refused_bundle, bundle_of_first, bundle_above, bundle_with_further, seen_at, new, refers_to, refers_to_s, with_definition};
 ghost use Rattle.ref_bundle_laws.specs.Rows.{renamed_root, listed_as, refers_twice, refers_twice_to_s};
 
 /// Bundles of documents of 2020-12.
@@ -54,16 +54,24 @@ pub fn needed_documents()
     ensures in_a_ring { numbers_of_needed
         (new "http://a/t" (one "$ref" (text "s")) ∷ new "http://a/u" empty
         ∷ new "http://a/s" (one "$ref" (text "r"))
-        ∷ new "http://a/r" (one "not" (one "$ref" (text "t"))) ∷ []) 2
+        ∷ new "http://a/r" (one "not" (one "$ref" (text "t"))) ∷ []) [] 2
         ≡ 0 ∷ 2 ∷ 3
         ∷ [] }
     ensures custom_meta_schema { numbers_of_needed
         (new "http://a/r" (one "$schema" (text "http://v/d#"))
-        ∷ new "http://v/d" empty ∷ []) 0 ≡ 0 ∷ 1 ∷ [] }
+        ∷ new "http://v/d" empty ∷ []) [] 0 ≡ 0 ∷ 1 ∷ [] }
     ensures known_meta_schema { numbers_of_needed
         (new "http://a/r" (one "$schema" (text "http://json-schema.org/draft-07/schema#"))
-        ∷ new "http://json-schema.org/draft-07/schema" empty ∷ []) 0 ≡ 0 ∷ [] }
-    ensures of_no_document { numbers_of_needed (refers_to_s ∷ []) 1 ≡ [] }
+        ∷ new "http://json-schema.org/draft-07/schema" empty ∷ []) [] 0 ≡ 0 ∷ [] }
+    ensures of_no_document { numbers_of_needed (refers_to_s ∷ []) [] 1 ≡ [] }
+    ensures by_a_further_place { numbers_of_needed
+        (refers_to_s ∷ new "http://a/s" empty ∷ new "http://a/t" empty ∷ [])
+        ([] ∷ (seen_at 1 (Key (codes "x") ∷ []) "http://a/s" "t" ∷ []) ∷ []) 0
+        ≡ 0 ∷ 1 ∷ 2 ∷ [] }
+    ensures by_one_that_is_not_needed { numbers_of_needed
+        (new "http://a/r" empty ∷ new "http://a/s" empty ∷ new "http://a/t" empty ∷ [])
+        ([] ∷ (seen_at 1 (Key (codes "x") ∷ []) "http://a/s" "t" ∷ []) ∷ []) 0
+        ≡ 0 ∷ [] }
 {}
 
 /// How documents of one draft are embedded below a root of another.
@@ -223,6 +231,30 @@ pub fn added_definitions()
     ensures of_nothing_embedded { bundle_of_first
         (refers_to "#/$defs/http:~1~1a~1r" ∷ new "http://a/s" empty ∷ [])
         ≡ bundle (one "$ref" (text "#/$defs/http:~1~1a~1r")) [] }
+{}
+
+/// Documents with further places, which refer to others that are embedded: by no keyword; to what a bundle adds; and in a root that
+/// is no object, and so can't have others.
+pub fn further_places()
+    ensures by_no_keyword { bundle_of_first
+        (new "http://a/r" (one "x" (one "$ref" (text "s"))) ∷ new "http://a/s" empty ∷ [])
+        ≡ bundle (one "x" (one "$ref" (text "s"))) [] }
+    ensures of_two { bundle_with_further
+        ((seen_at 0 (Key (codes "x") ∷ []) "http://a/r" "s" ∷ []) ∷ [])
+        (new "http://a/r" (one "x" (one "$ref" (text "s"))) ∷ new "http://a/s" empty ∷ [])
+        ≡ bundle
+        (two "$defs" (one "http://a/s" (one "$id" (text "http://a/s"))) "x"
+        (one "$ref" (text "s")))
+        (1 ∷ []) }
+    ensures to_the_identifier { bundle_with_further
+        ((seen_at 0 (Key (codes "x") ∷ []) "http://a/r" "s#/$id" ∷ []) ∷ [])
+        (new "http://a/r" (one "x" (one "$ref" (text "s#/$id"))) ∷ new "http://a/s" empty ∷ [])
+        ≡ refused_bundle 0 (Key (codes "x") ∷ [])
+        (AddedMember (codes "http://a/s") (codes "$id")) }
+    ensures no_object { bundle_with_further
+        ((seen_at 0 (Index 0 ∷ []) "http://a/r" "s" ∷ []) ∷ [])
+        (new "http://a/r" (pair (one "$ref" (text "s")) yes) ∷ new "http://a/s" empty ∷ [])
+        ≡ refused_bundle 0 [] (NotEmbedded NotAnObject) }
 {}
 
 /// Roots that can't have definitions, and places that would mean others.

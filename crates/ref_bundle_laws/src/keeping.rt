@@ -3,7 +3,8 @@ ghost use Rattle.std.specs.Prelude.{◌≡◌, drop, slice_get, Some, Ok};
 ghost use Rattle.serde_json.specs.View.{view};
 ghost use Rattle.ref_draft.specs.Children.{InKeyOrder};
 ghost use Rattle.ref_definitions.specs.World.{Document, local_documents};
-ghost use Rattle.ref_bundle.specs.Bundle.{Bundle, bundle_at};
+ghost use Rattle.ref_bundle.specs.Needed.{Further};
+ghost use Rattle.ref_bundle.specs.Bundle.{Bundle, bundle_with};
 ghost use Rattle.ref_bundle_laws.specs.Kept.{IsBundle};
 
 use referencing::Registry;
@@ -19,14 +20,14 @@ fn members_are_ordered(value: &Value)
     }
 }
 
-/// What the laws say of bundles holds of each that `ref_bundle::bundle` gives of a document of a registry: no own
+/// What the laws say of bundles holds of each that `ref_bundle::bundle_with` gives of a document of a registry: no own
 /// document has a fault or an open want, and the members of its values are in byte order of their keys. A law; a look-up,
 /// which takes no memory.
 pub fn bundle_is_lawful(registry: &Registry<'_>, root: usize)
-    ensures law { (top : Document) (bundle : Bundle)
+    ensures law { (further : Further) (top : Document) (bundle : Bundle)
         → slice_get (local_documents registry.now) root ≡ Some top
-        → bundle_at registry.now root ≡ Ok bundle
-        → IsBundle (local_documents registry.now) (drop 1 registry.now) root top bundle }
+        → bundle_with registry.now further root ≡ Ok bundle
+        → IsBundle (local_documents registry.now) further (drop 1 registry.now) root top bundle }
 {
     registry.references_are_retrieved();
     if let Some(value) = registry.value_at(root, &[]) {

@@ -5,7 +5,7 @@ ghost use Rattle.ref_definitions.specs.Rows.{yes, text, empty, one, two};
 ghost use Rattle.ref_bundle_laws.specs.Rows.{new, refers_to, refers_to_s, with_definition, listed_as};
 ghost use Rattle.ref_bundle_laws.specs.KeptRows.{value, fault, both, alike};
 ghost use Rattle.ref_bundle_laws.specs.Kept.{IsBundle, HaveMergedPlaces, HaveNoFault, HaveNoOpenWant};
-ghost use Rattle.ref_bundle_laws.specs.Kept.{KeepsReferences, EmbedWhatIsNeeded, AreReadAsTheirRoots};
+ghost use Rattle.ref_bundle_laws.specs.Kept.{KeepsReferences, KeepsFurtherReferences, EmbedWhatIsNeeded, AreReadAsTheirRoots};
 
 /// The places of a bundle are those of the root and of each embedded document, merged, each document's in their order. The
 /// roots have what was added. The paths of the other places of an embedded document go on from that of its root; their values,
@@ -25,9 +25,11 @@ pub fn bundles_are_prepared()
 /// place's base returns what it returned among the documents, with the same draft, base and scope, or the same fault. The
 /// value is the same, but that an embedded document as a whole, by its base URI, has its identifier and its `$schema`, and
 /// the root as a whole, by its URIs, the embedded documents. A pointer from the root to exactly its definitions returns all
-/// of them, those that were added too; where there were none, it was a fault.
+/// of them, those that were added too; where there were none, it was a fault. The same holds of a further place of a document
+/// that it needs, whose base is a URI that needed places have, or that no place has.
 pub fn bundles_keep_references()
     ensures law { KeepsReferences }
+    ensures further { KeepsFurtherReferences }
 {}
 
 /// A bundle embeds exactly what is needed: each document once, in the order of documents. A document that needs none is its own
@@ -47,7 +49,7 @@ pub fn bundles_are_read_as_their_roots()
 /// a whole, by an anchor below a relative identifier, by a dynamic anchor, of the root's definitions, of definitions that it
 /// didn't have, also as they are escaped in a URI, of nothing in them, of an identifier that stays, and of nothing.
 pub fn look_ups_in_bundles()
-    ensures a_bundle { IsBundle (refers_to_s ∷ new "http://a/s" empty ∷ []) [] 0 refers_to_s
+    ensures a_bundle { IsBundle (refers_to_s ∷ new "http://a/s" empty ∷ []) [] [] 0 refers_to_s
         (record {
           value = with_definition "http://a/s" (one "$id" (text "http://a/s"));
           embedded = listed_as 1 "http://a/s" true None ∷ [];

@@ -1,6 +1,7 @@
 //! Standard output, a large piece at a time.
 use crate::said::say_of;
 use crate::stop::Stop;
+use std::alloc::AllocError;
 use std::env;
 use std::io::Write;
 
@@ -22,6 +23,15 @@ impl<'r> Console<'r> {
             rt,
             out: String::new(rt.alloc()),
         }
+    }
+
+    /// Adds a text. Where nothing is to be printed yet, it isn't copied.
+    pub fn put(&mut self, text: String) -> Result<(), AllocError> {
+        if self.out.is_empty() {
+            self.out = text;
+            return Ok(());
+        }
+        self.out.push_str(text.as_str())
     }
 
     /// Writes the text where it is long.

@@ -1,20 +1,22 @@
 //! `patchsard bundle`.
+use crate::made::is_text_of;
 use crate::message::message_at;
 use crate::opened::{Opened, open_file, reported};
 use clap::ArgMatches;
-use ref_bundle::{Bundle, Embedded};
+use ref_bundle::{Bundle, Embedded, Spot, bundle_with};
 use ref_command_line::{Configured, Console, Stop, say, say_failures, say_of};
 use ref_descriptions::version_of;
 use ref_draft::Draft;
-use ref_files::{Format, WriteError, parsed, write_file};
+use ref_files::{Format, WriteError, write_file};
 use ref_findings::Problem;
+use ref_further::further_places;
 use ref_index::Place;
 use ref_messages::{Color, Level, Plain, push_text};
 use ref_parts::pointer_of;
 use ref_positions::splice::{Added, Part, with_added, with_parts};
 use ref_uri::UriRef;
 use ref_workspace::world::{World, outside_of, world_above};
-use ref_workspace::{Describer, Finding, Report};
+use ref_workspace::{Describer, Finding, Report, Workspace};
 use referencing::{Registry, ResourceRef};
 use serde_json::Value;
 use std::alloc::{AllocError, Global};
@@ -51,7 +53,8 @@ fn bundle_opened(
     if refuses_description(rt, opened) {
         return Ok(1);
     }
-    let report = opened.workspace.full_report(rt.alloc())?;
+    let opened = &*opened;
+    let report = opened.report(rt.alloc())?;
     let outside = reported(rt, outside_of(rt.alloc(), report.findings.as_slice()))?;
     bundle_above(rt, console, given, opened, &report, &outside)
 }
@@ -73,25 +76,27 @@ fn refuses_description(rt: &HostRuntime, opened: &Opened<'_>) -> bool {
 }
 
 // The bundle of what was read, above a registry of what stays outside.
-fn bundle_above<'s, 'd>(
+fn bundle_above<'s, 'd, 'r>(
     rt: &'s HostRuntime,
     console: &mut Console<'_>,
     given: &'s ArgMatches<'_>,
     opened: &'d Opened<'_>,
-    report: &'s Report<'d>,
-    outside: &Registry<'_>,
+    report: &'s Report<'r>,
+    outside: &'d Registry<'_>,
 ) -> Result<u8, Stop> {
     let trees = opened.workspace.mended(rt.alloc())?;
     let world = world_above(rt.alloc(), outside, &opened.workspace, trees.as_slice());
     let world = reported(rt, world)?;
+    let further = further_of(rt.alloc(), &opened.workspace, report, &world)?;
     let sources = Sources {
         rt,
         given,
         opened,
         report,
         world: &world,
+        further: further.as_slice(),
     };
-    match ref_bundle::bundle(rt.alloc(), &world.registry, 0) {
+    match bundle_with(rt.alloc(), &world.registry, further.as_slice(), 0) {
         Ok(bundle) => sources.write(console, &bundle),
         Err(error) => {
             let status = sources.refuse(&error);
@@ -101,17 +106,31 @@ fn bundle_above<'s, 'd>(
     }
 }
 
+// What references lead to where no keyword does. Where each document is asked about, the report says whether there may be such places.
+fn further_of<'w>(
+    alloc: Global,
+    workspace: &Workspace,
+    report: &Report<'_>,
+    world: &'w World<'_>,
+) -> Result<Vec<Vec<Spot<'w>>>, AllocError> {
+    if !report.is_led && workspace.len() == workspace.asked() {
+        return Ok(Vec::new(alloc));
+    }
+    further_places(alloc, &world.registry)
+}
+
 /// What a bundle is made from, and what is asked for.
 #[derive(Clone, Copy, Drop)]
-pub(crate) struct Sources<'s, 'a, 'd, 'm, 'w, 'o> {
+pub(crate) struct Sources<'s, 'a, 'd, 'r, 'm, 'w, 'o> {
     pub rt: &'s HostRuntime,
     given: &'s ArgMatches<'a>,
     pub opened: &'d Opened<'m>,
-    report: &'s Report<'d>,
+    report: &'s Report<'r>,
     pub world: &'w World<'o>,
+    further: &'w [Vec<Spot<'w>>],
 }
 
-impl<'s, 'a, 'd, 'm, 'w, 'o> Sources<'s, 'a, 'd, 'm, 'w, 'o> {
+impl<'s, 'a, 'd, 'r, 'm, 'w, 'o> Sources<'s, 'a, 'd, 'r, 'm, 'w, 'o> {
     /// The number of what was read as a document, where it was read.
     pub fn source(&self, document: usize) -> Option<usize> {
         self.world.sources.get(document).copied()
@@ -132,7 +151,7 @@ impl<'s, 'a, 'd, 'm, 'w, 'o> Sources<'s, 'a, 'd, 'm, 'w, 'o> {
                 status_of(self.rt, write_file(self.rt, path, text.as_str()))
             }
             _ => {
-                console.out.push_str(text.as_str())?;
+                console.put(text)?;
                 Ok(0)
             }
         }
@@ -142,11 +161,7 @@ impl<'s, 'a, 'd, 'm, 'w, 'o> Sources<'s, 'a, 'd, 'm, 'w, 'o> {
     fn has_problems(&self, bundle: &Bundle) -> Result<bool, Stop> {
         let needed = self.needed(bundle)?;
         let needed = needed.as_slice();
-        Ok(
-            self.has_faults(needed)?
-                || self.is_incomplete(bundle, needed)?
-                || self.report.led > 0 && self.say_left_behind(needed)?,
-        )
+        Ok(self.has_faults(needed)? || self.is_incomplete(bundle, needed)?)
     }
 
     // Prints what is wrong with the documents that are needed, and returns whether that keeps them from being bundled:
@@ -192,7 +207,7 @@ impl<'s, 'a, 'd, 'm, 'w, 'o> Sources<'s, 'a, 'd, 'm, 'w, 'o> {
     // identifier replaces.
     fn is_incomplete(&self, bundle: &Bundle, needed: &[bool]) -> Result<bool, Stop> {
         let mut is_incomplete = self.say_missing(bundle);
-        let places = self.world.places(self.rt.alloc())?;
+        let places = self.places()?;
         let replaced = self.replaced(places.as_slice());
         for place in &places {
             if let Some(number) = self.source(place.document) {
@@ -202,6 +217,18 @@ impl<'s, 'a, 'd, 'm, 'w, 'o> Sources<'s, 'a, 'd, 'm, 'w, 'o> {
             }
         }
         Ok(is_incomplete)
+    }
+
+    /// The places of all documents: those that keywords lead to, and after them further ones.
+    pub fn places(&self) -> Result<Vec<Place<'_>>, AllocError> {
+        let alloc = self.rt.alloc();
+        let mut places = self.world.places(alloc)?;
+        for spots in self.further {
+            for spot in spots {
+                places.push(place_of(alloc, spot)?)?;
+            }
+        }
+        Ok(places)
     }
 
     // Says which needed documents aren't there, and returns whether there are some.
@@ -371,10 +398,8 @@ impl<'s, 'a, 'd, 'm, 'w, 'o> Sources<'s, 'a, 'd, 'm, 'w, 'o> {
 
     // Whether a text is that of a value. Where it isn't standard error says so.
     fn is_text_of(&self, text: &str, value: &Value) -> Result<bool, AllocError> {
-        match parsed(self.rt.alloc(), text)? {
-            Ok(made) => {
-                let is_same = made == *value;
-                drop(made);
+        match is_text_of(self.rt.alloc(), text, value)? {
+            Ok(is_same) => {
                 if !is_same {
                     let why = "the text that was made isn't that of the bundle; nothing is written";
                     say(self.rt, why);
@@ -618,6 +643,19 @@ fn is_absolute(text: &str) -> bool {
         Ok(uri) => uri.has_scheme(),
         Err(_) => false,
     }
+}
+
+// A further place as a place: handles of its path and base.
+fn place_of<'w>(alloc: Global, spot: &Spot<'w>) -> Result<Place<'w>, AllocError> {
+    let path = spot.path.to_vec(alloc)?;
+    let base = spot.base.clone()?;
+    Ok(Place {
+        document: spot.document,
+        path,
+        value: spot.value,
+        base,
+        draft: spot.draft,
+    })
 }
 
 // Whether a finding is of interest for a bundle of these documents.

@@ -205,7 +205,7 @@ fn fixes_of(
     opened: &Opened<'_>,
 ) -> Result<Vec<Fix>, Stop> {
     let alloc = rt.alloc();
-    let report = opened.workspace.full_report(alloc)?;
+    let report = opened.report(alloc)?;
     let findings = report.findings.as_slice();
     let mut describer = Describer::new(alloc, &opened.workspace, findings, false)?;
     let mut known = Known::of(rt, given, opened)?;

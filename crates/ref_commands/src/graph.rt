@@ -1,10 +1,10 @@
 //! `patchsard graph`.
 use crate::left_out::say_broken;
-use crate::opened::{open_given, reported};
+use crate::opened::{Opened, open_given, reported};
 use clap::ArgMatches;
 use ref_command_line::{Configured, Console, Stop};
 use ref_messages::{Edge, Graph, push_dot, push_member, push_mermaid};
-use ref_workspace::{Shape, Workspace, graph_of};
+use ref_workspace::{Shape, graph_of};
 use std::alloc::{AllocError, Global};
 
 /// Draws which file refers to which, or which component. The status is 0, 1 where a file is neither JSON nor YAML, or 2 where a path couldn't be read.
@@ -15,7 +15,7 @@ pub fn graph<'a>(
     configured: &'a Configured,
 ) -> Result<u8, Stop> {
     let opened = open_given(rt, given, configured)?;
-    let drawn = draw(rt, console, given, &opened.workspace);
+    let drawn = draw(rt, console, given, &opened);
     let has_failed = opened.has_failed;
     let is_any_broken = say_broken(rt, opened.workspace.documents());
     drop(opened);
@@ -33,13 +33,16 @@ fn draw(
     rt: &HostRuntime,
     console: &mut Console<'_>,
     given: &ArgMatches<'_>,
-    workspace: &Workspace,
+    opened: &Opened<'_>,
 ) -> Result<(), Stop> {
     let shape = Shape {
         has_components: given.get_flag("components"),
         is_connected: given.get_flag("connected"),
     };
-    let graph = reported(rt, graph_of(rt.alloc(), workspace, shape))?;
+    opened.begin_judging()?;
+    let graph = graph_of(rt.alloc(), &opened.workspace, shape);
+    opened.watch.clear();
+    let graph = reported(rt, graph)?;
     let out = &mut console.out;
     let drawn = match given.get_str("format") {
         Some("dot") => push_dot(out, &graph),

@@ -175,7 +175,7 @@ fn list_all(
     opened: &Opened<'_>,
 ) -> Result<Count, Stop> {
     let alloc = rt.alloc();
-    let report = opened.workspace.full_report(alloc)?;
+    let report = opened.report(alloc)?;
     let findings = report.findings.as_slice();
     if listing.is_verbose {
         let unplaced = report.unplaced.as_slice();

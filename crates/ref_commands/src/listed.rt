@@ -117,8 +117,8 @@ fn is_set(rt: &HostRuntime, name: &str) -> bool {
     }
 }
 
-// Whether the terminal has no colours.
-fn is_dumb(rt: &HostRuntime) -> bool {
+/// Whether the terminal has neither colours nor a cursor that goes back.
+pub(crate) fn is_dumb(rt: &HostRuntime) -> bool {
     match env::var(rt, "TERM") {
         Ok(value) => value.as_str() == "dumb",
         Err(_) => false,

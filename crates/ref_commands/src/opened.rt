@@ -1,12 +1,16 @@
 //! The documents that a command line names.
+use crate::watch::Watch;
 use clap::ArgMatches;
 use ref_command_line::options::{maps, reading_of, say_unused};
-use ref_command_line::{Configured, Reading, Stop, say, say_failures};
+use ref_command_line::{Configured, Progress, Reading, Stop, say, say_failures};
 use ref_error::Error;
-use ref_files::{BrokenFile, Format, Listed, Maps, ReadFile, list_files, list_one, read_all};
+use ref_files::{
+    BrokenFile, Buffer, File, Format, Listed, Maps, ReadFile, ReadFiles, ReadSoFar, list_files,
+    list_one,
+};
 use ref_messages::Plain;
-use ref_workspace::{Document, Workspace};
-use std::alloc::AllocError;
+use ref_workspace::{Document, Report, Workspace};
+use std::alloc::{AllocError, Global};
 
 /// A workspace with what a command line asks to be read.
 #[derive(Drop)]
@@ -25,6 +29,8 @@ pub struct Opened<'r> {
     pub passed: usize,
     /// How many files and folders were left out since Git leaves them out.
     pub ignored: usize,
+    /// The line that says how far the command is.
+    pub watch: Watch<'r>,
 }
 
 /// Opens the files that a command line names, or else a configuration, and those of `--with`.
@@ -33,6 +39,7 @@ pub fn open_given<'r, 'a>(
     given: &ArgMatches<'a>,
     configured: &'a Configured,
 ) -> Result<Opened<'r>, Stop> {
+    let watch = Watch::new(rt, given);
     let reading = reading_of(rt, given, configured)?;
     if reading.selection.paths.is_empty() {
         say(
@@ -44,7 +51,7 @@ pub fn open_given<'r, 'a>(
     let listed = list_files(rt, &reading.selection)?;
     say_failures(rt, &listed.failures);
     say_unused(rt, listed.unused.as_slice());
-    open_listed(rt, &reading, listed)
+    open_listed(rt, &reading, listed, watch)
 }
 
 /// Opens the file that a command line names, and those of `--with`. A file that is to be written isn't among these.
@@ -54,6 +61,7 @@ pub fn open_file<'r, 'a>(
     configured: &'a Configured,
     output: Option<&str>,
 ) -> Result<Opened<'r>, Stop> {
+    let watch = Watch::new(rt, given);
     let reading = reading_of(rt, given, configured)?;
     let mut listed = list_one(rt, reading.file, &reading.selection, output)?;
     say_failures(rt, &listed.failures);
@@ -61,7 +69,7 @@ pub fn open_file<'r, 'a>(
     for file in &mut listed.files {
         file.is_own = true;
     }
-    open_listed(rt, &reading, listed)
+    open_listed(rt, &reading, listed, watch)
 }
 
 // Opens the files that were listed, and retrieves what they want from maps.
@@ -69,8 +77,11 @@ fn open_listed<'r>(
     rt: &'r HostRuntime,
     reading: &Reading<'_>,
     listed: Listed,
+    watch: Watch<'r>,
 ) -> Result<Opened<'r>, Stop> {
-    let read = read_all(rt, reading.base, listed.files)?;
+    let read = read_watched(rt, reading.base, listed.files, &watch);
+    watch.clear();
+    let read = read?;
     say_failures(rt, &read.failures);
     let has_failed = listed.failures.has_failed || read.failures.has_failed;
     let maps = maps(rt, reading.maps.as_slice())?;
@@ -82,6 +93,7 @@ fn open_listed<'r>(
         input: None,
         passed: read.passed.len(),
         ignored: listed.ignored,
+        watch,
     };
     for file in read.files {
         opened.open(file)?;
@@ -90,7 +102,41 @@ fn open_listed<'r>(
     Ok(opened)
 }
 
+// Reads files, and shows how many of them were read.
+fn read_watched(
+    rt: &HostRuntime,
+    base: Option<&str>,
+    files: Vec<File>,
+    watch: &Watch<'_>,
+) -> Result<ReadFiles, AllocError> {
+    let count = files.len();
+    let mut reading = ReadSoFar::new(rt.alloc());
+    let mut buffer = Buffer::new(rt.alloc());
+    for (read, file) in files.into_iter().enumerate() {
+        watch.show(Progress::Reading { read, files: count })?;
+        reading.add(rt, base, &mut buffer, file)?;
+    }
+    drop(buffer);
+    reading.finish(rt.alloc())
+}
+
 impl Opened<'_> {
+    /// Shows that the documents are being judged, or looked at in another way, where the command takes long.
+    pub fn begin_judging(&self) -> Result<(), AllocError> {
+        self.watch.show(Progress::Judging {
+            files: self.paths.len(),
+            documents: self.workspace.len(),
+        })
+    }
+
+    /// What is wrong with the documents, and what is to be noted; while it is looked for that is shown.
+    pub fn report<'d>(&'d self, alloc: Global) -> Result<Report<'d>, AllocError> {
+        self.begin_judging()?;
+        let report = self.workspace.full_report(alloc);
+        self.watch.clear();
+        report
+    }
+
     /// Keeps the documents to the end of the program, and returns how many are asked about.
     pub fn keep(self) -> usize {
         self.workspace.keep()

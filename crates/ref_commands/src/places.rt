@@ -2,13 +2,13 @@
 
 use crate::listing::Listing;
 use crate::members::is_json;
-use crate::opened::{open_given, reported};
+use crate::opened::{Opened, open_given, reported};
 use clap::ArgMatches;
 use ref_command_line::{Configured, Console, Stop, say_of};
 use ref_files::Format;
 use ref_index::Place;
 use ref_workspace::world::world_of;
-use ref_workspace::{Description, Document, Workspace, World};
+use ref_workspace::{Description, Document, World};
 
 /// Lists each subschema of files. The status is 0, 1 where a file has no places for a fault of its own, and 2 where a
 /// path couldn't be read.
@@ -23,7 +23,7 @@ pub fn places<'a>(
         alloc: rt.alloc(),
         is_json: is_json(given),
     };
-    let status = listed(rt, console, &opened.workspace, listing);
+    let status = listed(rt, console, &opened, listing);
     let has_failed = opened.has_failed;
     drop(opened);
     let status = status?;
@@ -33,15 +33,21 @@ pub fn places<'a>(
 fn listed(
     rt: &HostRuntime,
     console: &mut Console<'_>,
-    workspace: &Workspace,
+    opened: &Opened<'_>,
     listing: Listing,
 ) -> Result<u8, Stop> {
     let alloc = rt.alloc();
-    let trees = workspace.mended(alloc)?;
-    let world = reported(rt, world_of(alloc, workspace, trees.as_slice()))?;
-    let documents = workspace.documents();
-    list_all(listing, console, workspace, &world)?;
-    Ok(report_left_out(rt, documents))
+    let workspace = &opened.workspace;
+    opened.begin_judging()?;
+    let trees = workspace.mended(alloc);
+    opened.watch.clear();
+    let trees = trees?;
+    opened.begin_judging()?;
+    let world = world_of(alloc, workspace, trees.as_slice());
+    opened.watch.clear();
+    let world = reported(rt, world)?;
+    list_all(listing, console, opened, &world)?;
+    Ok(report_left_out(rt, workspace.documents()))
 }
 
 // Prints which files were left out, and returns the status.
@@ -63,10 +69,14 @@ fn report_left_out(rt: &HostRuntime, documents: &[Document]) -> u8 {
 fn list_all(
     listing: Listing,
     console: &mut Console<'_>,
-    workspace: &Workspace,
+    opened: &Opened<'_>,
     world: &World<'_>,
 ) -> Result<(), Stop> {
-    let description = workspace.description(listing.alloc, true)?;
+    let workspace = &opened.workspace;
+    opened.begin_judging()?;
+    let description = workspace.description(listing.alloc, true);
+    opened.watch.clear();
+    let description = description?;
     let places = world.places(listing.alloc)?;
     let mut rest = places.as_slice();
     for (number, source) in world.sources.iter().enumerate() {

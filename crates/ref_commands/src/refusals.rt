@@ -12,7 +12,7 @@ use ref_workspace::pointer::position;
 use serde_json::Value;
 use std::alloc::{AllocError, Global};
 
-impl<'s, 'a, 'd, 'm, 'w, 'o> Sources<'s, 'a, 'd, 'm, 'w, 'o> {
+impl<'s, 'a, 'd, 'r, 'm, 'w, 'o> Sources<'s, 'a, 'd, 'r, 'm, 'w, 'o> {
     /// Says why there is no bundle, and what to change. The status is 1.
     pub fn refuse(&self, error: &BundleError<'_>) -> Result<u8, Stop> {
         match error {
@@ -41,7 +41,7 @@ impl<'s, 'a, 'd, 'm, 'w, 'o> Sources<'s, 'a, 'd, 'm, 'w, 'o> {
     fn say_reference(&self, refusal: &Refusal<'_>) -> Result<(), AllocError> {
         let alloc = self.rt.alloc();
         let pointer = pointer_of(alloc, refusal.path.as_slice())?;
-        let places = self.world.places(alloc)?;
+        let places = self.places()?;
         for place in &places {
             if place.document == refusal.document
                 && is_at(alloc, place.path.as_slice(), pointer.as_str())?

@@ -24,6 +24,7 @@ mod why;
 mod write;
 mod yaml;
 
+pub use buffer::Buffer;
 pub use excluded::{Exclusion, Exclusions, path_from};
 pub use failure::{Failure, Failures};
 pub use listing::{File, Listed, Selection, list_files, list_one};
@@ -31,7 +32,7 @@ pub use maps::{BrokenFile, Map, Maps, is_base};
 pub use name::{Name, names_of};
 pub use path::{folder_of, last_name};
 pub use prefix::{below_prefix, path_below};
-pub use reading::{ReadFile, ReadFiles, read_all};
+pub use reading::{ReadFile, ReadFiles, ReadSoFar, read_all};
 pub use ref_positions::Format;
 pub use text::{DocumentText, Fault, parsed};
 pub use uri::{file_uri, relative_uri, uri_below};

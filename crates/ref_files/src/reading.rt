@@ -41,11 +41,7 @@ pub fn read_all(
     base: Option<&str>,
     files: Vec<File>,
 ) -> Result<ReadFiles, AllocError> {
-    let mut reading = Reading {
-        all: Vec::new(rt.alloc()),
-        is_read: Vec::new(rt.alloc()),
-        failures: Failures::new(rt.alloc()),
-    };
+    let mut reading = ReadSoFar::new(rt.alloc());
     let mut buffer = Buffer::new(rt.alloc());
     for file in files {
         reading.add(rt, base, &mut buffer, file)?;
@@ -54,9 +50,9 @@ pub fn read_all(
     reading.finish(rt.alloc())
 }
 
-// What was read so far.
+/// What was read so far of files that are read one after another.
 #[derive(Drop)]
-struct Reading {
+pub struct ReadSoFar {
     all: Vec<ReadFile>,
     // Which of them aren't passed over.
     is_read: Vec<bool>,
@@ -68,9 +64,19 @@ fn push(files: &mut Vec<ReadFile>, file: ReadFile) -> Result<(), AllocError> {
     Ok(())
 }
 
-impl Reading {
-    // Reads a file, and adds it, or why it could not be read.
-    fn add(
+impl ReadSoFar {
+    /// Nothing yet. Takes no memory.
+    pub fn new(alloc: Global) -> ReadSoFar {
+        ReadSoFar {
+            all: Vec::new(alloc),
+            is_read: Vec::new(alloc),
+            failures: Failures::new(alloc),
+        }
+    }
+
+    /// Reads a file into a buffer, and adds it under its path below a base URI, or under its `file:` URI; or adds why it could not be read. Fails only
+    /// if out of memory.
+    pub fn add(
         &mut self,
         rt: &HostRuntime,
         base: Option<&str>,
@@ -91,9 +97,10 @@ impl Reading {
         push(&mut self.all, ReadFile { file, uri, text })
     }
 
-    // Those that are read or referred to, and the others.
-    fn finish(self, alloc: Global) -> Result<ReadFiles, AllocError> {
-        let Reading {
+    /// Those that are read, and those that were passed over: each that is read only where its root says what it is, or a file refers to it, and
+    /// for which neither holds. Fails only if out of memory. Where some may be passed over, each value is visited once.
+    pub fn finish(self, alloc: Global) -> Result<ReadFiles, AllocError> {
+        let ReadSoFar {
             all,
             mut is_read,
             failures,

@@ -51,12 +51,15 @@ pub fn meant_text(
     }
 }
 
-// A reference with another fragment.
+// A reference with another fragment, or with `#` alone.
 fn with_fragment(alloc: Global, reference: &str, fragment: &str) -> Result<String, AllocError> {
     let front = match reference.split_once('#') {
         Some((front, _)) => front,
         None => reference,
     };
+    if fragment == "#" {
+        return format!(in alloc; "{front}#");
+    }
     let fragment = as_fragment(alloc, fragment)?;
     format!(in alloc; "{front}#{fragment}")
 }

@@ -3,7 +3,7 @@ use crate::asked::{Asked, asked_place};
 use crate::desk::Desk;
 use crate::workspace_symbols::named_in;
 use ref_fixes::{as_fragment, written};
-use ref_protocol::pieces::{Range, push_comma, push_range, push_text};
+use ref_protocol::pieces::{push_comma, push_range, push_text, quoted};
 use ref_protocol::refusal::Refusal;
 use ref_uri::UriFault;
 use ref_uri::uri::resolve_against;
@@ -26,11 +26,18 @@ const DIALECTS: [&str; 5] = [
 struct Items<'d> {
     desk: &'d Desk<'d>,
     out: String,
-    range: Range,
-    // What is replaced.
+    // What is replaced, and the edit of an item up to its new text.
     token: String,
+    edit: String,
     format: ref_files::Format,
 }
+
+// The kinds of items in the protocol: a value, a file and a reference.
+const VALUE: &str = "12";
+
+const FILE: &str = "17";
+
+const REFERENCE: &str = "18";
 
 /// `textDocument/completion`: in a `$schema` the dialects; in another reference, before a `#`, the documents and the places of the document itself, and
 /// after it the places of the document that is named.
@@ -58,13 +65,13 @@ fn listed(desk: &Desk<'_>, view: &View<'_, '_>, asked: &Asked) -> Result<String,
     let mut items = Items {
         desk,
         out: String::from_str(alloc, "[")?,
-        range: asked.range(desk),
         token: String::from_str(alloc, token)?,
+        edit: edit_of(alloc, desk, asked)?,
         format,
     };
     if asked.is_under("$schema") {
         for dialect in DIALECTS {
-            items.push(dialect, 12)?;
+            items.push(dialect, VALUE)?;
         }
     } else {
         match before.split_once('#') {
@@ -75,17 +82,28 @@ fn listed(desk: &Desk<'_>, view: &View<'_, '_>, asked: &Asked) -> Result<String,
     Ok(items.out)
 }
 
+// The edit of an item up to its new text.
+fn edit_of(alloc: Global, desk: &Desk<'_>, asked: &Asked) -> Result<String, AllocError> {
+    let mut edit = String::new(alloc);
+    push_range(&mut edit, ",\"textEdit\":{\"range\":", asked.range(desk))?;
+    edit.push_str(",\"newText\":")?;
+    Ok(edit)
+}
+
 impl Items<'_> {
-    // Adds a text, with its kind in the protocol.
-    fn push(&mut self, text: &str, kind: usize) -> Result<(), AllocError> {
+    // Adds a text, with its kind in the protocol. What items have in common is made once, since there may be one for each document.
+    fn push(&mut self, text: &str, kind: &str) -> Result<(), AllocError> {
         let alloc = self.desk.alloc();
         let new = written(alloc, self.format, self.token.as_str(), text)?;
+        let new = quoted(alloc, new.as_str())?;
         push_comma(&mut self.out)?;
         push_text(alloc, &mut self.out, "{\"label\":", text)?;
-        ref_protocol::pieces::push_number(&mut self.out, ",\"kind\":", kind)?;
-        push_text(alloc, &mut self.out, ",\"filterText\":", new.as_str())?;
-        push_range(&mut self.out, ",\"textEdit\":{\"range\":", self.range)?;
-        push_text(alloc, &mut self.out, ",\"newText\":", new.as_str())?;
+        self.out.push_str(",\"kind\":")?;
+        self.out.push_str(kind)?;
+        self.out.push_str(",\"filterText\":")?;
+        self.out.push_str(new.as_str())?;
+        self.out.push_str(self.edit.as_str())?;
+        self.out.push_str(new.as_str())?;
         self.out.push_str("}}")
     }
 
@@ -100,7 +118,7 @@ impl Items<'_> {
             if number != asked.number {
                 if let Some(uri) = workspace.uri(number) {
                     let relative = relative(self.desk.alloc(), base.as_str(), uri.as_str())?;
-                    self.push(relative.as_str(), 17)?;
+                    self.push(relative.as_str(), FILE)?;
                 }
             }
         }
@@ -125,12 +143,12 @@ impl Items<'_> {
             if is_of_kind(asked.pointer.as_str(), pointer.as_str()) {
                 let fragment = as_fragment(alloc, pointer.as_str())?;
                 let text = format!(in alloc; "{front}#{fragment}")?;
-                self.push(text.as_str(), 18)?;
+                self.push(text.as_str(), REFERENCE)?;
             }
         }
         for anchor in anchors_in(alloc, root)? {
             let text = format!(in alloc; "{front}#{anchor}")?;
-            self.push(text.as_str(), 18)?;
+            self.push(text.as_str(), REFERENCE)?;
         }
         Ok(())
     }

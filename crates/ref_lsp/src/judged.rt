@@ -8,7 +8,7 @@ use ref_messages::{Level, Message, Other};
 use ref_outline::spans::{offset_of, token_end};
 use ref_protocol::encoding::place_at;
 use ref_protocol::pieces::{Range, push_comma, push_location, push_number, push_range, push_text};
-use ref_workspace::{Describer, Finding, Silences};
+use ref_workspace::{Describer, Finding, Report, Silences};
 use std::alloc::{AllocError, Global};
 use std::collections::BTreeMap;
 
@@ -38,8 +38,8 @@ pub struct Bounds {
     pub there: Vec<bool>,
     /// Whether references lead to places that no keyword leads to in other documents.
     pub is_led: bool,
-    /// Whether the report on them has to be plain for that; else it has not to be.
-    pub is_plain: bool,
+    /// Whether references may come back to where they began, in all documents; where nothing says it, it is found out.
+    pub may_come_back: Option<bool>,
 }
 
 impl Bounds {
@@ -49,7 +49,7 @@ impl Bounds {
             judged: Vec::new(alloc),
             there: Vec::new(alloc),
             is_led: false,
-            is_plain: false,
+            may_come_back: None,
         }
     }
 
@@ -79,24 +79,40 @@ pub struct Judged {
     pub fixes: Vec<Fix>,
     /// By the numbers of the documents, what is to be known of each that was judged.
     pub notes: Vec<Note>,
-    /// Whether the report on those that were looked at is plain.
-    pub is_plain: bool,
+    /// Whether what references lead to was looked at, in those documents.
+    pub is_led: bool,
+    /// Whether references may come back to where they began, in all documents.
+    pub may_come_back: bool,
 }
 
 /// What is wrong with documents of a desk.
 pub fn judge(desk: &Desk<'_>, rules: &mut Rules, bounds: &Bounds) -> Result<Judged, AllocError> {
     let alloc = desk.alloc();
-    let there = bounds.there.as_slice();
-    let report = desk.workspace.report_among(alloc, there, bounds.is_led)?;
-    let is_plain = report.is_plain;
-    let findings = within(alloc, bounds, report.findings)?;
-    let mut judged = Judged::new(desk, is_plain)?;
+    let Report {
+        findings,
+        is_led,
+        may_come_back,
+        ..
+    } = report_within(desk, bounds)?;
+    let findings = within(alloc, bounds, findings)?;
+    let mut judged = Judged::new(desk, (is_led, may_come_back))?;
     judged.note_all(findings.as_slice());
     judged.add_all(desk, rules, bounds, findings.as_slice())?;
     for open in &desk.open {
         judged.add_open(desk, rules, bounds, open)?;
     }
     Ok(judged)
+}
+
+// What is wrong with the documents that are looked at.
+fn report_within<'d>(desk: &'d Desk<'_>, bounds: &Bounds) -> Result<Report<'d>, AllocError> {
+    let there = bounds.there.as_slice();
+    match bounds.may_come_back {
+        Some(may) => desk
+            .workspace
+            .report_among(desk.alloc(), there, bounds.is_led, may),
+        None => desk.workspace.full_report(desk.alloc()),
+    }
 }
 
 // Those findings that are in documents that are judged.
@@ -137,7 +153,7 @@ fn level_of(
 
 impl Judged {
     // Nothing yet.
-    fn new(desk: &Desk<'_>, is_plain: bool) -> Result<Judged, AllocError> {
+    fn new(desk: &Desk<'_>, (is_led, may_come_back): (bool, bool)) -> Result<Judged, AllocError> {
         let alloc = desk.alloc();
         let mut notes = Vec::with_capacity(alloc, desk.workspace.len())?;
         for _ in 0..desk.workspace.len() {
@@ -151,7 +167,8 @@ impl Judged {
             lists: BTreeMap::new(alloc),
             fixes: Vec::new(alloc),
             notes,
-            is_plain,
+            is_led,
+            may_come_back,
         })
     }
 

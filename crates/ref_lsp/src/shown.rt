@@ -9,7 +9,7 @@ use ref_protocol::sending::Unsent;
 use ref_protocol::wire::Wire;
 use ref_streams::{Sink, Source};
 use ref_workspace::Summary;
-use ref_workspace::near::{altered, around, connected, has_description_beyond};
+use ref_workspace::near::{altered, around, connected, has_description_beyond, may_any_come_back};
 use std::alloc::{AllocError, Global};
 use std::collections::BTreeMap;
 use std::mem::swap;
@@ -51,7 +51,9 @@ pub struct Kept {
     summaries: Vec<Rc<Summary>>,
     // By the numbers of the documents.
     notes: Vec<Note>,
-    is_plain: bool,
+    // Whether what references lead to was looked at, and whether references may come back to where they began.
+    is_led: bool,
+    may_come_back: bool,
 }
 
 // How many searches for what may be meant the `lint` of all documents surely ends: each takes at most a fiftieth of what all may take.
@@ -64,7 +66,8 @@ impl Kept {
             round: None,
             summaries: Vec::new(alloc),
             notes: Vec::new(alloc),
-            is_plain: false,
+            is_led: false,
+            may_come_back: false,
         }
     }
 
@@ -79,14 +82,19 @@ impl Kept {
         for note in &self.notes {
             wanting.push(note.is_wanting)?;
         }
-        if self.is_plain {
-            self.plain_bounds(alloc, desk, wanting.as_slice())
+        let after = desk.summaries.list.as_slice();
+        let before = self.summaries.as_slice();
+        let may = may_any_come_back(alloc, before, after, self.may_come_back)?;
+        if self.is_led || self.may_come_back {
+            self.led_bounds(alloc, desk, wanting.as_slice(), may)
+        } else if may {
+            Ok(None)
         } else {
-            self.led_bounds(alloc, desk, wanting.as_slice())
+            self.plain_bounds(alloc, desk, wanting.as_slice())
         }
     }
 
-    // The bounds where reports are plain.
+    // The bounds where references aren't followed on.
     fn plain_bounds(
         &self,
         alloc: Global,
@@ -100,16 +108,17 @@ impl Kept {
             judged,
             there,
             is_led: false,
-            is_plain: true,
+            may_come_back: Some(false),
         }))
     }
 
-    // The bounds where they aren't.
+    // The bounds where they are, or were.
     fn led_bounds(
         &self,
         alloc: Global,
         desk: &Desk<'_>,
         wanting: &[bool],
+        may: bool,
     ) -> Result<Option<Bounds>, AllocError> {
         let after = desk.summaries.list.as_slice();
         let Some(judged) = connected(alloc, self.summaries.as_slice(), after, wanting)? else {
@@ -121,7 +130,7 @@ impl Kept {
             judged,
             there,
             is_led,
-            is_plain: false,
+            may_come_back: Some(may),
         }))
     }
 
@@ -278,13 +287,15 @@ impl Shown {
             lists,
             fixes,
             notes,
-            is_plain,
+            is_led,
+            may_come_back,
         } = judged;
         self.told.lists = lists;
         self.told.fixes = fixes;
         self.told.is_fresh = true;
         self.kept.notes = notes;
-        self.kept.is_plain = is_plain;
+        self.kept.is_led = is_led;
+        self.kept.may_come_back = may_come_back;
         self.kept.round = Some(desk.summaries.round);
         self.kept.keep_summaries(desk)?;
         Ok(())
@@ -298,7 +309,7 @@ impl Shown {
         bounds: Bounds,
     ) -> Result<(), Unsent> {
         let judged = judge(desk, &mut self.rules, &bounds)?;
-        if judged.is_plain != bounds.is_plain || !self.kept.is_bounded(Some((&bounds, &judged))) {
+        if judged.is_led != self.kept.is_led || !self.kept.is_bounded(Some((&bounds, &judged))) {
             drop(judged);
             return self.refresh_all(desk, wire);
         }
@@ -317,6 +328,7 @@ impl Shown {
             lists,
             fixes,
             notes,
+            may_come_back,
             ..
         } = judged;
         for (number, note) in notes.into_iter().enumerate() {
@@ -326,6 +338,7 @@ impl Shown {
         }
         self.take_lists(desk.alloc(), wire, lists)?;
         self.told.add_fixes(fixes)?;
+        self.kept.may_come_back = may_come_back;
         self.kept.keep_summaries(desk)?;
         self.told.is_fresh = true;
         Ok(())

@@ -20,7 +20,8 @@ pub fn push_text(
     out.push_str(text.as_str())
 }
 
-fn quoted(alloc: Global, text: &str) -> Result<String, AllocError> {
+/// A text as a JSON string. Fails only if out of memory.
+pub fn quoted(alloc: Global, text: &str) -> Result<String, AllocError> {
     let text = String::from_str(alloc, text)?;
     Value::String(text).to_string(alloc)
 }

@@ -2,6 +2,9 @@ pub mod Tables
 pub mod Dialects
 pub mod Slips
 pub mod Ends
+pub mod Members
+pub mod Cases
+pub mod Circles
 pub mod Views
 pub mod Rows
 pub mod inner

@@ -6,6 +6,9 @@ use Rattle.ref_draft.specs.declared.draft.Draft.{Draft}
 use Rattle.ref_rules.specs.declared.slip.Problem.{Problem}
 use Rattle.ref_rules.specs.Slips.{Place, Slip}
 use Rattle.ref_rules.specs.Ends.{End}
+use Rattle.ref_rules.specs.Members.{Member, Repeat}
+use Rattle.ref_rules.specs.Cases.{Alike}
+use Rattle.ref_rules.specs.Circles.{Step}
 
 -- the root of a document, and a place below it
 abbrev pub root : Draft → Data → Place
@@ -21,3 +24,19 @@ told n keyword problem = record { place = n; keyword = codes keyword; problem = 
 -- what a reference leads to
 abbrev pub end : Draft → Data → End
 end d value = record { draft = d; value = value }
+
+-- a member of an object
+abbrev pub member : ℕ → Literal → Member
+member object name = record { object = object; name = codes name }
+
+-- one that comes again
+abbrev pub again : ℕ → ℕ → Repeat
+again number first = record { number = number; first = first }
+
+-- a text that is wanted, and one that is there
+abbrev pub like : ℕ → ℕ → Alike
+like wanted there = record { wanted = wanted; there = there }
+
+-- a step from a place to another one
+abbrev pub step : ℕ → ℕ → Step
+step from to = record { from = from; to = to }

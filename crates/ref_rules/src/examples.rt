@@ -7,7 +7,10 @@ ghost use Rattle.ref_rules.specs.Tables.{has, of_others, decides, tells};
 ghost use Rattle.ref_rules.specs.Dialects.{meant, misspelled};
 ghost use Rattle.ref_rules.specs.Slips.{of_another, is_dialect_within, beside_ref, misspelled_at, slips};
 ghost use Rattle.ref_rules.specs.Ends.{is_schema, no_schemas};
-ghost use Rattle.ref_rules.specs.Rows.{root, inner, told, end};
+ghost use Rattle.ref_rules.specs.Members.{repeats};
+ghost use Rattle.ref_rules.specs.Cases.{all_alike};
+ghost use Rattle.ref_rules.specs.Circles.{is_circle};
+ghost use Rattle.ref_rules.specs.Rows.{root, inner, told, end, member, again, like, step};
 
 /// The keywords of others, of each draft.
 pub fn keywords_of_others()
@@ -108,4 +111,36 @@ pub fn ends_of_references()
         (Some (end Draft7 empty) ∷ None ∷ Some (end Draft7 (text "a")) ∷ Some (end Draft4 yes)
         ∷ [])
         ≡ 2 ∷ 3 ∷ [] }
+{}
+
+/// Members that come again.
+pub fn members_of_objects()
+    ensures none { repeats (member 0 "a" ∷ member 0 "b" ∷ []) ≡ [] }
+    ensures no_member { repeats [] ≡ [] }
+    ensures again { repeats (member 0 "a" ∷ member 0 "b" ∷ member 0 "a" ∷ []) ≡ again 2 0 ∷ [] }
+    ensures thrice { repeats (member 3 "a" ∷ member 3 "a" ∷ member 3 "a" ∷ [])
+        ≡ again 1 0 ∷ again 2 0 ∷ [] }
+    ensures cases { repeats (member 0 "a" ∷ member 0 "A" ∷ []) ≡ [] }
+{}
+
+/// Names that differ by small letters and capitals alone.
+pub fn letters_of_names()
+    ensures other_case { all_alike (codes "file:///a/Name.json" ∷ [])
+        (codes "file:///b" ∷ codes "file:///a/name.json" ∷ [])
+        ≡ like 0 1 ∷ [] }
+    ensures another { all_alike (codes "file:///a/names.json" ∷ []) (codes "file:///a/name.json" ∷ [])
+        ≡ [] }
+    ensures first { all_alike (codes "x" ∷ codes "AB" ∷ []) (codes "aB" ∷ codes "ab" ∷ [])
+        ≡ like 1 0 ∷ [] }
+{}
+
+/// Steps that come back to where they began.
+pub fn steps_that_come_back()
+    ensures to_itself { is_circle (step 3 3 ∷ []) (0 ∷ []) ≡ true }
+    ensures of_two { is_circle (step 0 1 ∷ step 5 2 ∷ step 1 0 ∷ []) (2 ∷ 0 ∷ []) ≡ true }
+    ensures not_back { is_circle (step 0 1 ∷ step 1 2 ∷ []) (0 ∷ 1 ∷ []) ≡ false }
+    ensures apart { is_circle (step 0 1 ∷ step 2 0 ∷ []) (0 ∷ 1 ∷ []) ≡ false }
+    ensures twice_around { is_circle (step 0 0 ∷ []) (0 ∷ 0 ∷ []) ≡ true }
+    ensures of_no_steps { is_circle (step 0 0 ∷ []) [] ≡ false }
+    ensures no_such_step { is_circle (step 0 0 ∷ []) (1 ∷ []) ≡ false }
 {}

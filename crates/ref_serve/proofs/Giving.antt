@@ -1,5 +1,5 @@
 -- What look-ups give.
-use Rattle.std.proofs.Common.{◌≡◌, ℕ, List, [], ◌∷◌, ◌++◌, Option, Result, Ok, refl, sym, ap, ◌∙◌, subst}
+use Rattle.std.proofs.Common.{◌≡◌, ℕ, List, [], ◌∷◌, ◌++◌, Option, Result, Ok, Err, refl, sym, ap, ◌∙◌, subst}
 use Rattle.serde_json.specs.Data.{Data, object, Members, no_members, put}
 use Rattle.serde_json.specs.View.{view}
 use Rattle.serde_json.specs.declared.value.Value.{Value}
@@ -7,10 +7,16 @@ use Rattle.ref_definitions.specs.Fault.{Fault}
 use Rattle.ref_definitions.specs.Lookup.{Resolver, Found as WorldFound}
 use Rattle.ref_index.specs.Spots.{Spot}
 use Rattle.ref_json.specs.declared.stop.Stop.{Stop}
+use Rattle.ref_json.specs.declared.stop.Stop.TheVariants.{Memory, Because}
+use Rattle.ref_definitions.specs.World.{World, local_documents}
+use Rattle.ref_bundle.specs.Needed.{Further}
+use Rattle.ref_bundle.specs.Bundle.{bundle_with}
+use Rattle.ref_further.specs.Further.{AreFurther}
+use Rattle.ref_serve.specs.Listings.{bundled_result, IsBundled}
 use Rattle.ref_calls.specs.Objects.{with_all, object_of}
 use Rattle.ref_serve.specs.declared.place.Found.{Found}
 use Rattle.ref_serve.specs.Results.{Then, Asked, IsFound, found_members, resolver_members}
-use Rattle.ref_calls.specs.Outcome.{Gives}
+use Rattle.ref_calls.specs.Outcome.{Answers, Gives}
 use Rattle.ref_serve.specs.inner.Seen.{IsFoundBy}
 
 with_all-append : (xs ys : List (List ℕ × Data)) (ms : Members) → with_all (xs ++ ys) ms ≡ with_all ys (with_all xs ms)
@@ -32,3 +38,11 @@ gives_then read x may result is given = subst (λ r. Gives (Then r may) result) 
 
 pub then_ok : {A : Type 0} (read : Result A Data) (x : A) (may : A → Result Data Data → Type 0) (outcome : Result Data Data) → read ≡ Ok x → may x outcome → Then read may outcome
 then_ok read x may outcome is given = subst (λ r. Then r may outcome) (sym is) given
+
+-- ---- bundles
+
+pub gives_bundled : (world : World) (document : ℕ) (further : Further) (result : Result Value (Stop Value)) → AreFurther (local_documents world) further → Answers view result (bundled_result (bundle_with world further document)) → Gives (IsBundled world document) result
+unfolding IsBundled
+gives_bundled world document further (Ok value) are is = (further, are, sym is)
+gives_bundled world document further (Err Memory) are is = is
+gives_bundled world document further (Err (Because error)) are is = (further, are, sym is)

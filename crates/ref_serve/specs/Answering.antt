@@ -19,7 +19,7 @@ use Rattle.ref_serve.specs.Faults.{faults_result}
 use Rattle.ref_serve.specs.Where.{placed}
 use Rattle.ref_calls.specs.Yaml.{IsCallRead, IsYaml}
 use Rattle.ref_serve.specs.References.{IsReferences}
-use Rattle.ref_serve.specs.Listings.{places_result, dangling_result, vocabularies_result, bundle_result}
+use Rattle.ref_serve.specs.Listings.{places_result, dangling_result, vocabularies_result, IsBundle}
 
 -- `faults`, whose texts of YAML are read first
 unfoldable pub IsFaults : Data → Result Data Data → Type 0
@@ -40,7 +40,7 @@ IsResult Places state d outcome = outcome ≡ places_result state d
 IsResult References state d outcome = IsReferences state d outcome
 IsResult Dangling state d outcome = outcome ≡ dangling_result state d
 IsResult Vocabularies state d outcome = outcome ≡ vocabularies_result state d
-IsResult Bundle state d outcome = outcome ≡ bundle_result state d
+IsResult Bundle state d outcome = IsBundle state d outcome
 IsResult Open state d outcome = Unit {0}
 IsResult Close state d outcome = Unit {0}
 

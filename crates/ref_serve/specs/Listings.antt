@@ -1,5 +1,5 @@
 -- The results of calls on the documents of a registry as wholes.
-use Rattle.std.specs.Prelude.{ℕ, List, [], ◌∷◌, ◌++◌, map, filter, codes, Option, None, Some, Result, Ok, Err}
+use Rattle.std.specs.Prelude.{◌≡◌, ℕ, List, [], ◌∷◌, ◌++◌, map, filter, codes, Option, None, Some, Result, Ok, Err}
 use Rattle.serde_json.specs.Data.{Data, string}
 use Rattle.ref_paths.specs.Path.{Part}
 use Rattle.ref_parts.specs.Pointer.{pointer_text}
@@ -9,8 +9,9 @@ use Rattle.ref_definitions.specs.Results.{◌>>=◌}
 use Rattle.ref_definitions.specs.Listing.{Listed, local_places}
 use Rattle.ref_vocabularies.specs.Vocabularies.{Known, Core, Applicator, Unevaluated, Validation, Metadata, Format, FormatAnnotation, Content, FormatAssertion, Standard, VocabularySet, all_known, contains, find_vocabularies}
 use Rattle.ref_lint.specs.Dangling.{DanglingReference, dangling}
+use Rattle.ref_bundle.specs.Needed.{Further}
 use Rattle.ref_bundle.specs.Embedding.{Obstacle, NotAnObject, IdentifierBesideRef, NotAnIdentifier, NotKept, UnnamedDraft, ResolvedAgain}
-use Rattle.ref_bundle.specs.Bundle.{Bundle, BundleRefusal, Problem, NoDocument, NotEmbedded, NoMap, KeyTaken, SharedUri, ReplacedUri, ShadowedUri, AddedMember, bundle_at}
+use Rattle.ref_bundle.specs.Bundle.{Bundle, BundleRefusal, Problem, NoDocument, NotEmbedded, NoMap, KeyTaken, SharedUri, ReplacedUri, ShadowedUri, AddedMember, bundle_with}
 use Rattle.ref_bundle.specs.Saying.{refusal_text}
 use Rattle.ref_draft.specs.Names.{draft_name}
 use Rattle.ref_draft.specs.Schema.{identifier}
@@ -18,7 +19,9 @@ use Rattle.ref_draft.specs.Anchors.{Kind, Plain, Dynamic, anchors}
 use Rattle.ref_calls.specs.Objects.{object_of, list_of, texts, whole}
 use Rattle.ref_calls.specs.Errors.{error_members, fault_members}
 use Rattle.ref_calls.specs.Calls.{required_member, number_in, draft_of, schema_of}
+use Rattle.ref_further.specs.Further.{AreFurther}
 use Rattle.ref_serve.specs.State.{Registries, registry_under}
+use Rattle.ref_serve.specs.Results.{Then}
 
 -- the members of a place in one of a registry's own documents
 abbrev pub site_members : ℕ → List Part → List (List ℕ × Data)
@@ -150,9 +153,14 @@ document_number d = do
   value ← required_member (codes "document") d
   number_in (codes "document") value
 
+-- the bundle of a document, by the further places of the documents of its registry
+unfoldable pub IsBundled : World → ℕ → Result Data Data → Type 0
+IsBundled world document outcome =
+    (further : Further) × AreFurther (local_documents world) further
+    × (outcome ≡ bundled_result (bundle_with world further document))
+
 -- `bundle`
-unfoldable pub bundle_result : Registries → Data → Result Data Data
-bundle_result state d = do
-  registry ← registry_under state d (codes "registry")
-  document ← document_number d
-  bundled_result (bundle_at registry.1.0 document)
+unfoldable pub IsBundle : Registries → Data → Result Data Data → Type 0
+IsBundle state d outcome =
+    Then (registry_under state d (codes "registry"))
+    (λ registry. Then (document_number d) (IsBundled registry.1.0)) outcome

@@ -5,7 +5,9 @@ use crate::resources::Resources;
 use crate::rules::code_of;
 use crate::spots::{Spots, first_of, spots_of};
 use crate::suggestions::{Meant, suggestion};
-use crate::told::{no_schema_text, told_help, told_suggestion, told_text};
+use crate::told::{
+    case_text, endless_text, no_schema_text, repeated_text, told_help, told_suggestion, told_text,
+};
 use crate::why::{fault_text, near_dialect, uri_text};
 use crate::workspace::Workspace;
 use ref_descriptions::Kind;
@@ -141,13 +143,11 @@ impl<'l, 'd> Describer<'l, 'd> {
         if text.fault().is_some() {
             return Excerpt::at_column(text.text.as_str(), line, column);
         }
-        let position = self.spots.own(number, finding)?;
-        Excerpt::at(
-            text.format,
-            text.text.as_str(),
-            position.offset(),
-            finding.text,
-        )
+        let offset = match &finding.problem {
+            Problem::Repeated { at, .. } => at.offset,
+            _ => self.spots.own(number, finding)?.offset(),
+        };
+        Excerpt::at(text.format, text.text.as_str(), offset, finding.text)
     }
 
     // Adds to a message what takes memory.
@@ -164,7 +164,7 @@ impl<'l, 'd> Describer<'l, 'd> {
             message.is_only = meant.is_only;
             message.suggestion = Some(meant.text);
         }
-        message.first = self.first(number, &finding.problem)?;
+        message.first = self.first(number, finding)?;
         Ok(())
     }
 
@@ -177,6 +177,15 @@ impl<'l, 'd> Describer<'l, 'd> {
             Problem::NotASchema { is, draft } => {
                 no_schema_text(self.alloc, finding.text.unwrap_or(""), is, *draft)
             }
+            Problem::Endless { around } => {
+                endless_text(self.alloc, finding.text.unwrap_or(""), around.as_str())
+            }
+            Problem::OtherCase { document } => case_text(
+                self.alloc,
+                finding.text.unwrap_or(""),
+                self.workspace.name(*document),
+            ),
+            Problem::Repeated { name, .. } => repeated_text(self.alloc, name.as_str()),
             Problem::Told { told, draft } => told_text(self.alloc, finding, *told, *draft),
         }
     }
@@ -346,11 +355,30 @@ impl<'l, 'd> Describer<'l, 'd> {
         }
     }
 
-    fn first(&self, number: usize, problem: &Problem<'_>) -> Result<Option<Other>, AllocError> {
-        match first_of(problem) {
+    fn first(&self, number: usize, finding: &Finding<'_>) -> Result<Option<Other>, AllocError> {
+        if let Problem::Repeated { first, .. } = &finding.problem {
+            return Ok(Some(self.other_at(finding, (first.line, first.column))?));
+        }
+        match first_of(&finding.problem) {
             Some(bearer) => Ok(Some(self.other(number, bearer)?)),
             None => Ok(None),
         }
+    }
+
+    // A place of the object that a finding is about.
+    fn other_at(
+        &self,
+        finding: &Finding<'_>,
+        (line, column): (usize, usize),
+    ) -> Result<Other, AllocError> {
+        let file = String::from_str(self.alloc, self.workspace.name(finding.source))?;
+        let pointer = pointer_of(self.alloc, finding.path.as_slice())?;
+        Ok(Other {
+            file,
+            line,
+            column,
+            pointer,
+        })
     }
 
     fn other(&self, number: usize, bearer: &Bearer<'_>) -> Result<Other, AllocError> {
@@ -378,6 +406,9 @@ fn position_of(
 ) -> (usize, usize) {
     if let Some(fault) = fault_of(workspace, finding.source) {
         return (fault.line, fault.column);
+    }
+    if let Problem::Repeated { at, .. } = &finding.problem {
+        return (at.line, at.column);
     }
     match spots.own(number, finding) {
         Some(position) => (position.line(), position.column()),

@@ -1,4 +1,5 @@
 //! The descriptions among the documents of a workspace: what is wrong with their references, and where these are.
+use crate::endless::{Link, add_links};
 use crate::finding::{Finding, Problem, push};
 use crate::led::add_led_places;
 use crate::placed::Placed;
@@ -38,6 +39,8 @@ pub(crate) struct Described {
     pub is_led: bool,
     // By the numbers of the documents, whether one is looked at. One without a flag is.
     there: Vec<bool>,
+    /// Where it is wanted, which references lead where, as far as they were looked at.
+    pub links: Option<Vec<Link>>,
 }
 
 /// What is wrong with a reference in the document with a number, at a path.
@@ -155,6 +158,7 @@ impl Described {
             descriptions: 0,
             is_led: false,
             there: Vec::from_slice(alloc, there)?,
+            links: None,
         };
         for number in 0..workspace.len() {
             let is_there = described.has(number);
@@ -208,6 +212,20 @@ impl Described {
     /// Whether there is one.
     pub fn is_any(&self) -> bool {
         self.is_described.iter().any(|is| *is)
+    }
+
+    /// Adds which references of places lead where, where that is wanted.
+    pub fn add_links<'r>(
+        &mut self,
+        alloc: Global,
+        numbers: &[usize],
+        documents: &Documents<'r>,
+        places: &[Place<'r>],
+    ) -> Result<(), AllocError> {
+        match &mut self.links {
+            Some(links) => add_links(alloc, numbers, documents, places, links),
+            None => Ok(()),
+        }
     }
 
     // By the numbers of the documents, whether one is a description or a part.
@@ -297,6 +315,8 @@ fn faults_among<'d, 'r>(
 ) -> Result<Vec<Fault<'d>>, AllocError> {
     let reached = reach(alloc, documents)?;
     described.note_reached(alloc, asked, numbers, documents.own(), &reached)?;
+    described.add_links(alloc, numbers, documents, documents.own())?;
+    described.add_links(alloc, numbers, documents, reached.places.as_slice())?;
     faults_in(alloc, numbers, documents.own(), reached)
 }
 

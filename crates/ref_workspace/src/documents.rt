@@ -10,7 +10,7 @@ use ref_uri::uri::resolve_against;
 use std::alloc::{AllocError, Global};
 
 /// What may be meant by the text of a reference from a document that was resolved to a URI that none has: a place of the document itself, where the `#`
-/// was forgotten; a document whose URI ends in `.json`, `.yaml` or `.yml`; or one whose name is a letter or two away, or has other cases.
+/// was forgotten; a document whose URI ends in `.json`, `.yaml` or `.yml`; one that is meant with a slash at the beginning, or without it; or one whose name is a letter or two away, or has other cases.
 pub fn meant_document(
     alloc: Global,
     suggester: &mut Suggester,
@@ -30,6 +30,10 @@ pub fn meant_document(
         let text = format!(in alloc; "{front}{end}{hash}{fragment}")?;
         return Ok(Some(Meant { text, is_only }));
     }
+    if let Some(front) = with_other_slash(alloc, workspace, resources, source, (front, uri))? {
+        let text = format!(in alloc; "{front}{hash}{fragment}")?;
+        return Ok(Some(Meant::only(text)));
+    }
     let best = resources.close_uri(alloc, suggester, uri)?;
     let Some(close) = best.name else {
         return Ok(None);
@@ -47,6 +51,36 @@ pub fn meant_document(
         text,
         is_only: best.is_only,
     }))
+}
+
+// The text of a reference with a slash at its beginning, or without it, where that is one of another document that is there.
+fn with_other_slash(
+    alloc: Global,
+    workspace: &Workspace,
+    resources: &Resources<'_>,
+    source: usize,
+    (front, uri): (&str, &str),
+) -> Result<Option<String>, AllocError> {
+    let (front, meant) = match (front.strip_prefix('/'), workspace.uri(source)) {
+        (Some(rest), Some(own)) => {
+            let (folder, _) = own.as_str().rsplit_once('/').unwrap_or(("", ""));
+            (
+                String::from_str(alloc, rest)?,
+                [folder, front].join(alloc, "")?,
+            )
+        }
+        _ => {
+            let front = ["/", front].join(alloc, "")?;
+            let meant = [host_of(uri), front.as_str()].join(alloc, "")?;
+            (front, meant)
+        }
+    };
+    let is_there = resources.get(meant.as_str()).is_some();
+    if is_there && !is_uri_of(workspace, source, meant.as_str()) {
+        Ok(Some(front))
+    } else {
+        Ok(None)
+    }
 }
 
 // What a URI lacks at its end to be that of a document, and whether it may lack that alone.

@@ -18,9 +18,11 @@ pub struct Report<'d> {
     pub references: usize,
     /// How many of these are in places of schemas that no keyword leads to, but references.
     pub led: usize,
-    /// Whether no document is a description or a part of one, and keywords lead to each reference: then what is wrong with a document is
+    /// Whether a document is a description or a part of one, or no keyword leads to a reference: else what is wrong with a document is
     /// what is wrong with its own places.
-    pub is_plain: bool,
+    pub is_led: bool,
+    /// Whether references were followed on, since they may come back to where they began.
+    pub may_come_back: bool,
     /// How many of the documents that are asked about are descriptions.
     pub descriptions: usize,
     /// How many places the descriptions have: objects, and what references lead to.
@@ -65,6 +67,25 @@ pub enum Problem<'d> {
         /// The draft that it is read by.
         draft: Draft,
     },
+    /// A reference comes back to where it began without a step into the value that is validated.
+    Endless {
+        /// The places around, from the first one back to it.
+        around: String,
+    },
+    /// The document that a reference wants isn't there, and one is whose URI has the same letters, small or capital.
+    OtherCase {
+        /// The number of that document.
+        document: usize,
+    },
+    /// A member of a text of JSON has the name of an earlier one of its object.
+    Repeated {
+        /// The name.
+        name: String,
+        /// Where it begins.
+        at: Mark,
+        /// Where the first one of its name begins.
+        first: Mark,
+    },
     /// Of a keyword of a schema, which is read by this draft.
     Told {
         /// What is told.
@@ -74,12 +95,25 @@ pub enum Problem<'d> {
     },
 }
 
+/// Where something begins in a text: the offset in bytes, and the line and the column in characters, each from 1.
+#[derive(Clone, Copy, Debug, Drop)]
+pub struct Mark {
+    /// The offset.
+    pub offset: usize,
+    /// The line.
+    pub line: usize,
+    /// The column.
+    pub column: usize,
+}
+
 impl<'d> Problem<'d> {
     /// How much it counts. Takes no memory.
     pub fn level(&self) -> Level {
         match self {
             Problem::Plain(problem) => problem.level(),
-            Problem::WrongKind { .. } | Problem::NotASchema { .. } => Level::Error,
+            Problem::WrongKind { .. } | Problem::NotASchema { .. } | Problem::Endless { .. } =>
+                Level::Error,
+            Problem::Repeated { .. } | Problem::OtherCase { .. } => Level::Warning,
             Problem::Told { told, .. } => level_of(*told),
         }
     }

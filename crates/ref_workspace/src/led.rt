@@ -30,7 +30,10 @@ pub(crate) fn add_led<'d>(
     for number in 0..workspace.asked() {
         described.look_at(number, is_any);
     }
-    if !is_any && !ends.may_be_no_schema(alloc, workspace, &*described)? {
+    if !is_any
+        && described.links.is_none()
+        && !ends.may_be_no_schema(alloc, workspace, &*described)?
+    {
         return Ok(0);
     }
     let Led {
@@ -101,6 +104,7 @@ fn led_by<'d>(
     let asked = workspace.asked();
     let own = schemas.places();
     no_schemas_in(alloc, asked, numbers, &documents, own, &mut no_schemas)?;
+    described.add_links(alloc, numbers, &documents, own)?;
     if is_any {
         return led_among(
             alloc,
@@ -156,6 +160,7 @@ fn led_among<'d, 'r>(
     let places = reached.places.as_slice();
     let references = references_in(alloc, asked, numbers, places, described)?;
     no_schemas_in(alloc, asked, numbers, documents, places, &mut no_schemas)?;
+    described.add_links(alloc, numbers, documents, places)?;
     let faults = faults_in(alloc, numbers, own, reached)?;
     let faults = each_once(alloc, faults)?;
     Ok(Led {

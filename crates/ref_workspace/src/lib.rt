@@ -3,15 +3,19 @@
 //! a name, a URI and a text, and answers are values.
 #![tactic(auto)]
 
+mod cases;
 mod describe;
 mod described;
 mod documents;
 mod edges;
+mod endless;
 mod ends;
 mod finding;
 pub mod follow;
+mod heads;
 mod leads;
 mod led;
+mod members;
 pub mod near;
 mod placed;
 pub mod pointer;
@@ -33,7 +37,7 @@ pub mod world;
 pub use describe::Describer;
 pub use described::{DescribedPlace, DescribedReference, Description};
 pub use edges::{Shape, graph_of};
-pub use finding::{Finding, Problem, Report};
+pub use finding::{Finding, Mark, Problem, Report};
 pub use placed::{Unplaced, lines_of};
 pub use rules::RULES;
 pub use silences::Silences;

@@ -1,12 +1,16 @@
 //! Which documents a change may alter the findings of, and which others are looked at for that.
 //!
-//! Where a report is [plain](crate::Report::is_plain), nothing is looked at but the places that keywords lead to, and what is told of a document depends on
-//! few others: each of its references is looked up in the documents that bear the URI that it points into; an identifier of it may be borne by others
+//! Where no references are [led](crate::Report::is_led) to, and none [may come back](crate::Report::may_come_back) to where they began, nothing is looked at but
+//! the places that keywords lead to, and what is told of a document depends on few others: each of its references is looked up in the documents that bear the URI that it points into; an identifier of it may be borne by others
 //! too; and where its draft is guessed, the first place of another draft that refers to it is told. References aren't followed on from where they lead. What may be
-//! meant by a URI that nothing bears depends on which URIs all documents bear, and on nothing else in them.
+//! meant by a URI that nothing bears depends on which URIs all documents bear, and on nothing else in them; and whether a document that is missing is there with other
+//! cases, on the URIs of the documents themselves, which are the same until documents come or go. Whether a member comes again is told by one text alone.
 //!
-//! Else what references lead to is read as they say, and its references are followed in turn. Then what is told of a document depends on those that a way of
-//! references connects it with, in whichever direction each goes.
+//! Else references are followed on from where they lead: what they lead to is read as they say, and its references are followed in turn; or it is to be found whether
+//! they come back to where they began. Then what is told of a document depends on those that a way of references connects it with, in whichever direction each
+//! goes. Whether references may come back is asked of all documents, by the names of their members alone: where there is no circle among names, there is none
+//! among places.
+use crate::heads::Heads;
 use crate::summary::Summary;
 use crate::world::without_fragment;
 use ref_index::meanings::{if_meant, meta_schema_of, target_of};
@@ -19,8 +23,9 @@ use std::rc::Rc;
 /// bear it too; those whose draft may be guessed and that one of these refers or referred to; and, where the URIs that are borne may be others now, those
 /// that refer to a document that isn't there, which `wanting` says.
 ///
-/// That is so where reports are plain. A rule by which more documents decide what is told of one, as those on a way that goes on from one reference to the
-/// next, has to add those here, and what it looks at to [`around`]; or, where that would be most of them, to make a report that it finds something for not plain.
+/// That is so where references aren't followed on. A rule by which more documents decide what is told of one, as those on a way that goes on from one reference to the
+/// next, has to add those here, and what it looks at to [`around`]; or, where that would be most of them, to be asked of those alone that are [`connected`], wherever it may
+/// find something, as [`may_any_come_back`] says of the one that finds circles.
 pub fn altered(
     alloc: Global,
     before: &[Rc<Summary>],
@@ -153,6 +158,28 @@ impl Reached {
             || has_any(&self.borne, &summary.bears)
             || has_any(&self.referred, &summary.bears)
     }
+}
+
+/// Whether references may come back to where they began, in all documents: what was so before, where each document leads from the same names to the same names
+/// as before. Else as many look-ups as there are references.
+pub fn may_any_come_back(
+    alloc: Global,
+    before: &[Rc<Summary>],
+    after: &[Rc<Summary>],
+    was: bool,
+) -> Result<bool, AllocError> {
+    let mut is_same = before.len() == after.len();
+    for (old, new) in before.iter().zip(after.iter()) {
+        is_same = is_same && (old.stamp == new.stamp || old.heads.is_same(&new.heads));
+    }
+    if is_same {
+        return Ok(was);
+    }
+    let mut heads = Heads::new(alloc);
+    for summary in after {
+        heads.add(&summary.heads)?;
+    }
+    heads.may_come_back(alloc)
 }
 
 /// Whether a document without a flag is a description of an API.

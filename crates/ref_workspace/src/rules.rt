@@ -41,6 +41,10 @@ pub const RULES: &[Rule] = &[
         text: "A reference leads into a document that is not among the given files",
     },
     Rule {
+        code: "case-of-file",
+        text: "A document that is not among the given files differs from one of them by small letters and capitals alone",
+    },
+    Rule {
         code: "pointer-to-nowhere",
         text: "The pointer of a reference leads to no value",
     },
@@ -85,12 +89,20 @@ pub const RULES: &[Rule] = &[
         text: "A reference of a schema leads to what is no schema",
     },
     Rule {
+        code: "endless-reference",
+        text: "References come back to where they began without a step into the value that is validated",
+    },
+    Rule {
         code: "ignored-beside-ref",
         text: "A keyword that decides counts for nothing beside a $ref, in Drafts 4, 6 and 7",
     },
     Rule {
         code: "annotation-beside-ref",
         text: "An annotation or an identifier counts for nothing beside a $ref, in Drafts 4, 6 and 7",
+    },
+    Rule {
+        code: "repeated-member",
+        text: "Two members of an object have one name, and the last counts",
     },
     Rule {
         code: "keyword-of-another-draft",
@@ -113,6 +125,9 @@ pub fn code_of(problem: &Problem<'_>, format: Format) -> &'static str {
         Problem::Plain(problem) => code_of_plain(problem),
         Problem::WrongKind { .. } => "wrong-kind",
         Problem::NotASchema { .. } => "not-a-schema",
+        Problem::Endless { .. } => "endless-reference",
+        Problem::OtherCase { .. } => "case-of-file",
+        Problem::Repeated { .. } => "repeated-member",
         Problem::Told { told, .. } => code_of_told(*told),
     }
 }

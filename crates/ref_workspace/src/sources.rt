@@ -8,9 +8,13 @@ ghost use Rattle.ref_workspace.specs.Open.{document_of, workspace_of};
 ghost use Rattle.ref_workspace.specs.Workspace as spec;
 ghost use Rattle.ref_workspace.specs.Workspace.{as_source};
 
+use crate::cases::add_cases;
 use crate::described::{Described, add_described, is_among};
+use crate::endless::add_endless;
 use crate::finding::{Finding, Report, plain, push, push_all, push_plain};
+use crate::heads::may_be_endless;
 use crate::led::add_led;
+use crate::members::add_repeated;
 use crate::ruled::{add_told, without_misspelled};
 use crate::workspace::{Document, Workspace};
 use ref_draft::Draft;
@@ -137,20 +141,25 @@ impl Workspace {
     /// What is wrong with the documents that are asked about, whatever they are, and what is to be noted; and after it which
     /// retrieved documents have no value, and which texts of them mean no URI. Fails only if out of memory.
     pub fn full_report<'d>(&'d self, alloc: Global) -> Result<Report<'d>, AllocError> {
-        self.report_among(alloc, &[], false)
+        let may_come_back = may_be_endless(alloc, self)?;
+        self.report_among(alloc, &[], false, may_come_back)
     }
 
     /// The same as though there were no other documents than those that are looked at, and what was retrieved and has no text: by flags, by
     /// the numbers of the documents. One without a flag is looked at. Places that no keyword leads to, but references, are looked for where there may be some, or
-    /// where `is_led` says so, since there are some in others.
+    /// where `is_led` says so, since there are some in others; and references that come back to where they began, where `may_come_back` says that there may be some.
     pub fn report_among<'d>(
         &'d self,
         alloc: Global,
         there: &[bool],
         is_led: bool,
+        may_come_back: bool,
     ) -> Result<Report<'d>, AllocError> {
         let mut described = Described::among(alloc, self, there)?;
         described.is_led = is_led;
+        if may_come_back {
+            described.links = Some(Vec::new(alloc));
+        }
         let mut more = Vec::new(alloc);
         add_described(alloc, self, &mut described, &mut more)?;
         let mut findings = Vec::new(alloc);
@@ -158,14 +167,20 @@ impl Workspace {
         let led = add_led(alloc, self, references, &mut described, &mut more)?;
         let references = references.saturating_add(led);
         push_all(&mut findings, more)?;
+        if let Some(links) = &described.links {
+            add_endless(alloc, self, links.as_slice(), &mut findings)?;
+        }
+        add_cases(alloc, self, &mut findings)?;
         add_told(alloc, self, &described, &mut findings)?;
+        add_repeated(alloc, self, &described, &mut findings)?;
         self.add_faults(alloc, &described, &mut findings)?;
         let unplaced = described.placed.unplaced(alloc, self)?;
         Ok(Report {
             findings,
             references: references.saturating_add(described.references),
             led,
-            is_plain: !described.is_led,
+            is_led: described.is_led,
+            may_come_back,
             descriptions: described.descriptions,
             places: described.places,
             unplaced,

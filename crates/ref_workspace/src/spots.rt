@@ -54,12 +54,17 @@ pub fn spots_of<'t>(
     documents: &'t [Document],
     findings: &[Finding<'_>],
 ) -> Result<Spots<'t>, AllocError> {
-    let asked = asked_of(alloc, documents, findings)?;
-    let located = located(alloc, documents, asked.files.as_slice())?;
+    let Asked {
+        files,
+        own,
+        first,
+        ..
+    } = asked_of(alloc, documents, findings)?;
+    let located = located(alloc, documents, files)?;
     Ok(Spots {
         located,
-        own: asked.own,
-        first: asked.first,
+        own,
+        first,
     })
 }
 
@@ -83,14 +88,15 @@ fn asked_of(
     Ok(asked)
 }
 
+// What is asked of a file is given back once it is found.
 fn located<'t>(
     alloc: Global,
     documents: &'t [Document],
-    asked: &[Option<Places>],
+    asked: Vec<Option<Places>>,
 ) -> Result<Vec<Option<Located<'t>>>, AllocError> {
     let mut all = Vec::with_capacity(alloc, documents.len())?;
-    for (document, places) in documents.iter().zip(asked.iter()) {
-        all.push(located_in(alloc, document, places)?)?;
+    for (document, places) in documents.iter().zip(asked.into_iter()) {
+        all.push(located_in(alloc, document, &places)?)?;
     }
     Ok(all)
 }
@@ -112,11 +118,24 @@ fn located_in<'t>(
 impl Asked {
     // Asks for the place of a finding, and for that of the first bearer that it clashes with.
     fn add(&mut self, documents: &[Document], finding: &Finding<'_>) -> Result<(), AllocError> {
-        let own = self.ask(finding.source, finding.path.as_slice(), finding.keyword)?;
+        let own = self.ask_own(documents, finding)?;
         self.own.push(own)?;
         let first = self.ask_first(documents, finding)?;
         self.first.push(first)?;
         Ok(())
+    }
+
+    // Asks for the place of a finding, unless that is known, or the file has no value: where it has a fault is known too.
+    fn ask_own(
+        &mut self,
+        documents: &[Document],
+        finding: &Finding<'_>,
+    ) -> Result<usize, AllocError> {
+        let is_known = matches!(&finding.problem, Problem::Repeated { .. });
+        if is_known || !has_value(documents, finding.source) {
+            return Ok(0);
+        }
+        self.ask(finding.source, finding.path.as_slice(), finding.keyword)
     }
 
     // Asks for a place of a file, and for the value under a keyword there.
@@ -153,6 +172,14 @@ impl Asked {
             _ => keyword_of(documents, bearer, finding.keyword),
         };
         self.ask(bearer.source, bearer.path.as_slice(), keyword)
+    }
+}
+
+// Whether the document with a number has a value.
+fn has_value(documents: &[Document], number: usize) -> bool {
+    match documents.get(number) {
+        Some(document) => document.value().is_some(),
+        None => false,
     }
 }
 

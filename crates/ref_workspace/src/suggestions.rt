@@ -26,7 +26,7 @@ impl Meant {
 }
 
 /// What may be meant by an unresolvable reference into a resource: a pointer with another key, one that lacks its first
-/// slash, or another anchor.
+/// slash or has one too many at its end, or another anchor. A `#` is the resource as a whole.
 pub fn suggestion(
     alloc: Global,
     suggester: &mut Suggester,
@@ -36,7 +36,10 @@ pub fn suggestion(
     suggester.begin();
     match error {
         Error::PointerToNowhere { pointer } => {
-            close_pointer(alloc, suggester, resource.root, pointer.as_str())
+            match without_slash(alloc, resource.root, pointer.as_str())? {
+                Some(meant) => Ok(Some(meant)),
+                None => close_pointer(alloc, suggester, resource.root, pointer.as_str()),
+            }
         }
         Error::NoSuchAnchor { anchor } => {
             close_anchor(alloc, suggester, resource.names.as_slice(), anchor.as_str())
@@ -54,6 +57,18 @@ fn with_slash(alloc: Global, root: &Value, text: &str) -> Result<Option<Meant>, 
     } else {
         Ok(None)
     }
+}
+
+// The pointer without the slash at its end, where a value is at it.
+fn without_slash(alloc: Global, root: &Value, pointer: &str) -> Result<Option<Meant>, AllocError> {
+    let Some(front) = pointer.strip_suffix('/') else {
+        return Ok(None);
+    };
+    if root.pointer(front).is_none() {
+        return Ok(None);
+    }
+    let meant = if front.is_empty() { "#" } else { front };
+    Ok(Some(Meant::only(String::from_str(alloc, meant)?)))
 }
 
 // A pointer with another key in the place of the first that isn't there, where a value is at it.

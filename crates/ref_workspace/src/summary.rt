@@ -1,4 +1,5 @@
 //! What a document has to do with others, by its value alone.
+use crate::heads::Heads;
 use crate::referring::is_referring;
 use ref_descriptions::version_of;
 use ref_draft::Draft;
@@ -30,6 +31,8 @@ pub struct Summary {
     pub is_guessed: bool,
     /// Whether more URIs may be meant than are noted.
     pub is_open: bool,
+    /// From which names to which its references lead.
+    pub(crate) heads: Heads,
 }
 
 // A value that is to be visited, with the number of the bases that there may be around it.
@@ -60,6 +63,7 @@ impl Summary {
         stamp: usize,
     ) -> Result<Summary, AllocError> {
         let mut walk = Walk::new(alloc, uri, stamp)?;
+        walk.summary.heads = Heads::of(alloc, uri, value)?;
         if let Some(root) = value {
             walk.summary.has_value = true;
             walk.summary.is_description = version_of(root).is_some();
@@ -94,6 +98,7 @@ impl Walk {
             is_description: false,
             is_guessed: false,
             is_open: false,
+            heads: Heads::new(alloc),
         };
         Ok(Walk {
             alloc,

@@ -81,6 +81,27 @@ fn other_name(keyword: &str, draft: Draft) -> Option<&'static str> {
     }
 }
 
+/// That a reference comes back to where it began.
+pub(crate) fn endless_text(
+    alloc: Global,
+    reference: &str,
+    around: &str,
+) -> Result<String, AllocError> {
+    format!(in alloc; "'{reference}' comes back without a step into the value: {around}")
+}
+
+/// That a document is there whose URI has the same letters, small or capital.
+pub(crate) fn case_text(alloc: Global, reference: &str, name: &str) -> Result<String, AllocError> {
+    format!(in alloc;
+        "'{reference}' and the file {name} differ by small letters and capitals alone"
+    )
+}
+
+/// That a member has the name of an earlier one.
+pub(crate) fn repeated_text(alloc: Global, name: &str) -> Result<String, AllocError> {
+    format!(in alloc; "The object has '{name}' already: of members with one name the last counts")
+}
+
 /// That a reference leads to what is no schema.
 pub(crate) fn no_schema_text(
     alloc: Global,

@@ -88,12 +88,12 @@ fn with_document<'d>(
     }
 }
 
-/// The registry of the documents of a workspace, as [`world_of`] makes it, above another one, with copies of the values.
+/// The registry of the documents of a workspace, as [`world_of`] makes it, above another one.
 pub fn world_above<'d, 'o: 'd>(
     alloc: Global,
     above: &'d Registry<'o>,
-    workspace: &Workspace,
-    trees: &[Option<Value>],
+    workspace: &'d Workspace,
+    trees: &'d [Option<Value>],
 ) -> Result<World<'d>, Error> {
     let sources = first_of_each(alloc, workspace, &[])?;
     let registry = prepared_above(alloc, above, workspace, trees, sources.as_slice())?;
@@ -103,8 +103,8 @@ pub fn world_above<'d, 'o: 'd>(
 fn prepared_above<'d, 'o: 'd>(
     alloc: Global,
     above: &'d Registry<'o>,
-    workspace: &Workspace,
-    trees: &[Option<Value>],
+    workspace: &'d Workspace,
+    trees: &'d [Option<Value>],
     numbers: &[usize],
 ) -> Result<Registry<'d>, Error> {
     let mut builder = above
@@ -112,28 +112,9 @@ fn prepared_above<'d, 'o: 'd>(
         .draft(workspace.draft())
         .retrieval_limit(usize::MAX);
     for number in numbers {
-        builder = with_copy(builder, workspace, trees, *number)?;
+        builder = with_document(builder, workspace, trees, *number)?;
     }
     builder.retriever(Substitutes).prepare()
-}
-
-// The builder with a copy of the document that has a number.
-fn with_copy<'d>(
-    builder: RegistryBuilder<'d>,
-    workspace: &Workspace,
-    trees: &[Option<Value>],
-    number: usize,
-) -> Result<RegistryBuilder<'d>, Error> {
-    let Some(uri) = workspace.uri(number) else {
-        return Ok(builder);
-    };
-    match workspace.read_value(number, trees).clone() {
-        Ok(value) => builder.add(uri.as_str(), value),
-        Err(error) => {
-            drop(builder);
-            Err(error.into())
-        }
-    }
 }
 
 // No documents.

@@ -2,9 +2,9 @@
 use Rattle.std.specs.Prelude.{◌≡◌, ℕ, List, map, Option, option_map, Result, IfOk}
 use Rattle.std.specs.List.{AllByRecursion}
 use Rattle.ref_definitions.specs.World.{Document, Layer, World}
-use Rattle.ref_bundle.specs.Needed.{counted_documents}
+use Rattle.ref_bundle.specs.Needed.{Further, counted_documents}
 use Rattle.ref_bundle.specs.Bundle.{Problem, BundleRefusal}
-use Rattle.ref_bundle.specs.Saying.{problem_said, refusal_said}
+use Rattle.ref_bundle.specs.Saying.{problem_said, refusal_said, further_of}
 use Rattle.ref_bundle.specs.declared.error.Problem as rust_problem
 use Rattle.ref_bundle.specs.declared.error.Refusal as rust_refusal
 use Rattle.ref_bundle.specs.declared.among.Among as rust
@@ -16,6 +16,10 @@ use Rattle.ref_bundle.specs.inner.Tables.{AreTables}
 -- the own documents
 abbrev pub layer_of : rust.Among → Layer
 layer_of m = layer_in m.owns.now
+
+-- the further places
+abbrev pub further_among : rust.Among → Further
+further_among m = further_of m.further.now
 
 -- the registry
 abbrev pub world_of : rust.Among → World
@@ -35,7 +39,8 @@ pub record AreAmong (m : rust.Among) : Type 0 where
   pub order : map numbered_document m.owns.now ≡ counted_documents 0 (layer_in m.owns.now)
   pub places : AllByRecursion HasPlaces m.owns.now
   pub tables : AreTables (layer_in m.owns.now) m.bearers.now
-  pub needed : AreMarked (layer_in m.owns.now) m.top.now.number m.needed.now
+  pub needed : AreMarked (layer_in m.owns.now) (further_of m.further.now) m.top.now.number
+      m.needed.now
   pub root : HasBase m.top.now
   pub parts : AllByRecursion HasBase m.parts.now
 

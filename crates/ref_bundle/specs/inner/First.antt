@@ -5,10 +5,10 @@ use Rattle.serde_json.specs.Data.{Data}
 use Rattle.serde_json.specs.Find.{get}
 use Rattle.ref_paths.specs.Path.{Key, path_eq}
 use Rattle.ref_definitions.specs.World.{Document, Layer, World}
-use Rattle.ref_bundle.specs.Needed.{sites_of_uris, references_from}
+use Rattle.ref_bundle.specs.Needed.{Seen, Further, sites_of_uris}
 use Rattle.ref_bundle.specs.Embedding.{base_uri, obstacle}
-use Rattle.ref_bundle.specs.Bundle.{Problem, KeyTaken, NotEmbedded, root_refusals, BundleRefusal, at_path, shared_uri, reference_problems}
-use Rattle.ref_bundle.specs.inner.Seen.{Seen, own_uri_of}
+use Rattle.ref_bundle.specs.Bundle.{Problem, KeyTaken, NotEmbedded, root_refusals, BundleRefusal, at_path, shared_uri, seen_problems}
+use Rattle.ref_bundle.specs.inner.Seen.{own_uri_of}
 
 abbrev pub first : {X : Type 0} → List X → Option X
 first [] = None
@@ -30,15 +30,12 @@ abbrev pub shared_seen : Layer → List ℕ → Seen → List Problem
 shared_seen layer uri s =
     flat_map (shared_uri (sites_of_uris layer) (s.document, s.path)) (uris_seen uri s)
 
--- and of what it refers to
-abbrev pub references_seen : Layer → World → ℕ × Document → Seen → List Problem
-references_seen layer world top s =
-    flat_map (reference_problems layer world top) (references_from s.base s.value)
-
--- the refusals of a place
-abbrev pub refusals_seen : Layer → World → ℕ × Document → List ℕ → Seen → List BundleRefusal
-refusals_seen layer world top uri s =
-    map (at_path s.document s.path) (shared_seen layer uri s ++ references_seen layer world top s)
+-- the refusals of a place: of these, and of what it refers to
+abbrev pub refusals_seen : Layer → Further → World → ℕ × Document → List ℕ → Seen
+    → List BundleRefusal
+refusals_seen layer further world top uri s =
+    map (at_path s.document s.path)
+    (shared_seen layer uri s ++ seen_problems layer further world top s)
 
 -- a key that a value has already
 abbrev pub taken_in : ℕ → List ℕ → Data → ℕ × Document → List BundleRefusal

@@ -2,7 +2,7 @@
 use Rattle.std.specs.Prelude.{◌≡◌, ℕ, ◌+◌, ◌<◌, Bool, true, false, List, [], ◌∷◌, ◌++◌, take, length, slice_get, slice_set, if◌then◌else◌, Option, Some, None}
 use Rattle.std.specs.Option.{unwrap_or}
 use Rattle.ref_definitions.specs.World.{Layer}
-use Rattle.ref_bundle.specs.Needed.{is_among, numbers_of_needed}
+use Rattle.ref_bundle.specs.Needed.{Further, is_among, numbers_of_needed}
 use Rattle.ref_bundle.specs.declared.reach.Reached.{Reached}
 
 -- marks by number, and the numbers that are marked, in the order in which they were
@@ -19,9 +19,9 @@ abbrev pub is_marked : List Bool → ℕ → Bool
 is_marked marks n = unwrap_or (slice_get marks n) false
 
 -- marked are the documents that a bundle of a root needs
-abbrev pub AreMarked : Layer → ℕ → List Bool → Type 0
-AreMarked layer root marks =
-    (n : ℕ) → is_marked marks n ≡ is_among (numbers_of_needed layer root) n
+abbrev pub AreMarked : Layer → Further → ℕ → List Bool → Type 0
+AreMarked layer further root marks =
+    (n : ℕ) → is_marked marks n ≡ is_among (numbers_of_needed layer further root) n
 
 -- with a number marked and queued, where it has a mark that isn't set
 abbrev pub added_where : Option Bool → State → ℕ → State

@@ -1,32 +1,20 @@
 -- The program's documents and places as the definitions see them.
-use Rattle.std.specs.Prelude.{◌≡◌, ℕ, List, [], ◌∷◌, ◌++◌, map, flat_map, nat_lt, length, slice_get, if◌then◌else◌, Option, option_map, option_and_then, Result, Ok}
+use Rattle.std.specs.Prelude.{◌≡◌, ℕ, List, [], ◌∷◌, ◌++◌, map, flat_map, nat_lt, length, slice_get, if◌then◌else◌, Option, option_map, option_and_then}
 use Rattle.std.specs.List.{AllByRecursion}
 use Rattle.std.specs.Option.{option_to_list}
 use Rattle.std.specs.Result.{result_ok}
-use Rattle.serde_json.specs.Data.{Data}
 use Rattle.serde_json.specs.View.{view}
-use Rattle.ref_paths.specs.Path.{Part, value_at}
-use Rattle.ref_paths.specs.Segment.{part_of}
-use Rattle.ref_draft.specs.declared.draft.Draft.{Draft}
+use Rattle.ref_paths.specs.Path.{value_at}
 use Rattle.ref_draft.specs.Schema.{identifier}
-use Rattle.ref_uri.specs.Targets.{Refusal}
 use Rattle.ref_definitions.specs.World.{Document, Layer}
 use Rattle.ref_definitions.specs.Places.{Place, places}
 use Rattle.ref_definitions.specs.Listing.{Listed}
-use Rattle.ref_bundle.specs.Needed.{counted_documents, Reference}
+use Rattle.ref_bundle.specs.Needed.{counted_documents, Reference, Seen}
 use Rattle.ref_bundle.specs.Embedding.{base_uri}
-use Rattle.ref_bundle.specs.declared.own.Spot.{Spot}
+use Rattle.ref_bundle.specs.Saying.{seen_spot}
 use Rattle.ref_bundle.specs.declared.own.Own.{Own}
 use Rattle.ref_bundle.specs.declared.embedding.Part as rust_part
 use Rattle.ref_bundle.specs.declared.uris.Reference as rust_reference
-
--- a place with the number of its document
-pub record Seen : Type 0 where
-  pub document : ℕ
-  pub path : List Part
-  pub value : Data
-  pub draft : Draft
-  pub base : Result (List ℕ) Refusal
 
 -- one of the definition's
 abbrev pub see : ℕ → Place → Seen
@@ -36,17 +24,6 @@ see number p =
 -- those of a document
 abbrev pub seen_in : ℕ × Document → List Seen
 seen_in e = map (see e.0) (places e.1)
-
--- one of the program's
-abbrev pub seen_spot : Spot → Seen
-seen_spot s =
-    record {
-      document = s.document;
-      path = map part_of s.path.items;
-      value = view s.value.now;
-      draft = s.draft;
-      base = Ok s.base.value;
-    }
 
 -- the URI that it has by its own identifier
 abbrev pub own_uri_of : Seen → Option (List ℕ)

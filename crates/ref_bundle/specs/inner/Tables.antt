@@ -4,9 +4,9 @@ use Rattle.std.specs.Option.{option_map_or, option_to_list}
 use Rattle.ref_paths.specs.Segment.{part_of}
 use Rattle.ref_parts.specs.Table.{Entry, last_value}
 use Rattle.ref_definitions.specs.World.{Layer}
-use Rattle.ref_bundle.specs.Needed.{Site, sites_of_uris}
+use Rattle.ref_bundle.specs.Needed.{Site, sites_of_uris, Seen}
 use Rattle.ref_bundle.specs.Bundle.{is_site}
-use Rattle.ref_bundle.specs.inner.Seen.{Seen, own_uri_of}
+use Rattle.ref_bundle.specs.inner.Seen.{own_uri_of}
 use Rattle.ref_bundle.specs.declared.tables.Site as rust_site
 use Rattle.ref_bundle.specs.declared.tables.Bearers as rust_bearers
 

@@ -1,58 +1,61 @@
-use Rattle.std.proofs.Common.{◌≡◌, ◌==◌, ◌&&◌, ℕ, Bool, List, not, None, Some, map, filter, option_map, refl, ap, sym, subst, ◌∙◌, rules}
+use Rattle.std.proofs.Common.{◌≡◌, ℕ, List, None, Some, Ok, IfOk, IfErr, map, slice_get, ap, sym, subst, ◌∙◌, rules}
 use Rattle.std.specs.List.{AllByRecursion}
-use Rattle.ref_definitions.specs.World.{Document}
+use Rattle.ref_definitions.specs.World.{Layer, local_documents}
+use Rattle.ref_bundle.proofs.Lists.{got}
 use Rattle.ref_bundle.specs.Needed.{counted_documents}
-use Rattle.ref_bundle.specs.Bundle.{to_embed, bundle_of}
-use Rattle.ref_bundle.specs.Saying.{refusal_said, bundle_said}
-use Rattle.ref_bundle.specs.inner.Reach.{is_marked, AreMarked}
-use Rattle.ref_bundle.specs.inner.Seen.{document_in, layer_in, numbered_document, numbered_part, HasBase}
+use Rattle.ref_bundle.specs.Bundle.{bundle_among}
+use Rattle.ref_bundle.specs.Saying.{bundle_said, further_of, IsRefusalOf}
+use Rattle.ref_bundle.specs.inner.Seen.{document_in, layer_in, numbered_document, HasPlaces}
 use Rattle.ref_bundle.specs.declared.own.Own.{Own}
-use Rattle.ref_bundle.specs.declared.embedding.Part.{Part}
 use Rattle.ref_bundle.proofs.Gathering.{document_at}
-use Rattle.ref_bundle.proofs.Running.{reached_are_needed}
-use Rattle.ref_bundle.proofs.Whole.{parts_are, first_is, is_refused, is_bundle}
+use Rattle.ref_bundle.proofs.Whole.{layer_is, number_at, not_bundled}
 use Rattle.ref_bundle.proofs.bundling.bundle_with.Goals as goal
 
-pub first_refusal-requires : goal.first_refusal-requires
-first_refusal-requires c =
-    let layer = layer_in c.args.owns.now in
-    let same : c.in_ok-top.top.number ≡ c.args.top.now.number = ap (λ (e : ℕ × Document). e.0) c.in_ok-top.ensures.value in
+-- the document that was got by a root's number is the one of that number, in the layer
+root_is : (owns items lent : List Own) (layer : Layer) (n : ℕ) (top : Own) → owns ≡ items → lent ≡ items → map numbered_document items ≡ counted_documents 0 layer → slice_get lent n ≡ Some top
+    → (slice_get owns top.number ≡ Some top) × (top.number ≡ n) × (layer_in owns ≡ layer)
+root_is owns items lent layer n top same alike order at =
+    let counted : map numbered_document owns ≡ counted_documents 0 layer = ap (map numbered_document) same ∙ order in
+    let there : slice_get owns n ≡ Some top = ap (λ l. slice_get l n) (same ∙ sym alike) ∙ at in
+    let number = number_at owns layer n top counted there in
+    (ap (slice_get owns) number ∙ there, number, layer_is owns layer counted)
+
+pub bundle_among-requires-clause-own : goal.bundle_among-requires-clause-own
+bundle_among-requires-clause-own c =
+    let layer = local_documents c.args.registry.now in
+    let owns = c.as_slice.result.now in
+    let lent : owns ≡ c.in_ok-owns.owns.items = c.as_slice.ensures.value in
+    let order : map numbered_document owns ≡ counted_documents 0 layer = ap (map numbered_document) lent ∙ c.in_ok-owns.ensures.order in
     record {
-      order = c.requires.own.order;
-      places = c.requires.own.places;
-      tables = c.requires.tables;
-      needed = subst (λ n. AreMarked layer n c.args.needed.now) (sym same) (reached_are_needed layer c.args.top.now.number c.args.needed.now c.requires.needed);
-      root = c.in_ok-top.ensures.base;
-      parts = subst (AllByRecursion HasBase) (sym c.as_slice-embedded.ensures.value) c.in_ok-parts.ensures.bases;
+      order = order ∙ ap (counted_documents 0) (sym (layer_is owns layer order));
+      places = subst (AllByRecursion HasPlaces) (sym lent) c.in_ok-owns.ensures.places;
     }
 
--- the parts are the documents that have to be embedded
-parts_to_embed : (owns : List Own) (n : ℕ) (marks : List Bool) (slice parts : List Part) → AreMarked (layer_in owns) n marks → map numbered_document owns ≡ counted_documents 0 (layer_in owns) → slice ≡ parts
-    → map numbered_part parts ≡ filter (λ e. not (e.0 == n) && is_marked marks e.0) (map numbered_document owns) → map numbered_part slice ≡ to_embed (layer_in owns) n
-parts_to_embed owns n marks slice parts are order lent is =
-    ap (map numbered_part) lent ∙ is ∙ ap (filter (λ e. not (e.0 == n) && is_marked marks e.0)) order ∙ parts_are (layer_in owns) n marks are
+pub bundle_among-requires-clause-top : goal.bundle_among-requires-clause-top
+bundle_among-requires-clause-top c =
+    let (there, number, layer) = root_is c.as_slice.result.now c.in_ok-owns.owns.items c.deref.result.now (local_documents c.args.registry.now) c.args.root c.in-Some.top.now c.as_slice.ensures.value c.deref.ensures.value c.in_ok-owns.ensures.order
+    (sym (got c.deref.result.now c.args.root c.get.result c.get.ensures.lookup) ∙ search rules) in
+    there
+
+pub returns-in-Some-clause-value : goal.returns-in-Some-clause-value
+returns-in-Some-clause-value c =
+    let (there, number, layer) = root_is c.as_slice.result.now c.in_ok-owns.owns.items c.deref.result.now (local_documents c.args.registry.now) c.args.root c.in-Some.top.now c.as_slice.ensures.value c.deref.ensures.value c.in_ok-owns.ensures.order
+    (sym (got c.deref.result.now c.args.root c.get.result c.get.ensures.lookup) ∙ search rules) in
+    subst (λ k. IfOk c.bundle_among.result (λ b. bundle_among (local_documents c.args.registry.now) (further_of c.args.further.now) c.args.registry.now k ≡ Ok (bundle_said b))) number
+    (subst (λ l. IfOk c.bundle_among.result (λ b. bundle_among l (further_of c.args.further.now) c.args.registry.now c.in-Some.top.now.number ≡ Ok (bundle_said b))) layer c.bundle_among.ensures.value)
 
 pub returns-in-Some-clause-fault : goal.returns-in-Some-clause-fault
 returns-in-Some-clause-fault c =
-    let owns = c.args.owns.now in
-    let n = c.args.top.now.number in
-    let marks = c.args.needed.now in
-    let are : AreMarked (layer_in owns) n marks = reached_are_needed (layer_in owns) n marks c.requires.needed in
-    let embeds = parts_to_embed owns n marks c.as_slice-embedded.result.now c.in_ok-parts.parts.items are c.requires.own.order c.as_slice-embedded.ensures.value c.in_ok-parts.ensures.parts in
-    let said : option_map refusal_said c.in_ok-refusal.field-0 ≡ Some (refusal_said c.in-Some.refusal) = search rules in
-    is_refused (layer_in owns) c.args.bearers.now.registry.now n (document_in c.args.top.now) (refusal_said c.in-Some.refusal) (document_at document_in owns (layer_in owns) n (Some c.args.top.now) refl c.requires.top)
-    (sym said ∙ first_is (layer_in owns) c.args.bearers.now.registry.now n (document_in c.args.top.now) marks (numbered_part c.in_ok-top.top) (map numbered_part c.as_slice-embedded.result.now) (map numbered_document owns) (option_map refusal_said c.in_ok-refusal.field-0) c.requires.own.order are c.in_ok-top.ensures.value embeds c.in_ok-refusal.ensures.value)
+    let (there, number, layer) = root_is c.as_slice.result.now c.in_ok-owns.owns.items c.deref.result.now (local_documents c.args.registry.now) c.args.root c.in-Some.top.now c.as_slice.ensures.value c.deref.ensures.value c.in_ok-owns.ensures.order
+    (sym (got c.deref.result.now c.args.root c.get.result c.get.ensures.lookup) ∙ search rules) in
+    subst (λ k. IfErr c.bundle_among.result (IsRefusalOf (bundle_among (local_documents c.args.registry.now) (further_of c.args.further.now) c.args.registry.now k))) number
+    (subst (λ l. IfErr c.bundle_among.result (IsRefusalOf (bundle_among l (further_of c.args.further.now) c.args.registry.now c.in-Some.top.now.number))) layer c.bundle_among.ensures.fault)
 
-pub returns-clause-value : goal.returns-clause-value
-returns-clause-value c =
-    let layer = layer_in c.args.owns.now in
-    let own = c.args.top.now in
-    let n = own.number in
-    let marks = c.args.needed.now in
-    let are : AreMarked layer n marks = reached_are_needed layer n marks c.requires.needed in
-    let embeds = parts_to_embed c.args.owns.now n marks c.as_slice-embedded.result.now c.in_ok-parts.parts.items are c.requires.own.order c.as_slice-embedded.ensures.value c.in_ok-parts.ensures.parts in
-    let said : option_map refusal_said c.in_ok-refusal.field-0 ≡ None = search rules in
-    let document = ap (λ (e : ℕ × Document). e.1) c.in_ok-top.ensures.value in
-    is_bundle layer c.args.bearers.now.registry.now n (document_in own) (bundle_said c.in_ok-bundle_of-in-None.field-0) (document_at document_in c.args.owns.now layer n (Some own) refl c.requires.top)
-    (sym said ∙ first_is layer c.args.bearers.now.registry.now n (document_in own) marks (numbered_part c.in_ok-top.top) (map numbered_part c.as_slice-embedded.result.now) (map numbered_document c.args.owns.now) (option_map refusal_said c.in_ok-refusal.field-0) c.requires.own.order are c.in_ok-top.ensures.value embeds c.in_ok-refusal.ensures.value)
-    (c.in_ok-bundle_of-in-None.ensures ∙ ap (λ d. bundle_of d (map numbered_part c.as_slice-embedded.result.now)) document ∙ ap (bundle_of (document_in own)) embeds)
+pub returns-clause-fault : goal.returns-clause-fault
+returns-clause-fault c =
+    let layer = local_documents c.args.registry.now in
+    let owns = c.deref.result.now in
+    let order : map numbered_document owns ≡ counted_documents 0 layer = ap (map numbered_document) c.deref.ensures.value ∙ c.in_ok-owns.ensures.order in
+    let missing : slice_get owns c.args.root ≡ None = sym (got owns c.args.root c.get.result c.get.ensures.lookup) ∙ search rules in
+    let at = document_at document_in owns layer c.args.root None (layer_is owns layer order) missing in
+    not_bundled layer (further_of c.args.further.now) c.args.registry.now c.args.root at ∙ search rules

@@ -4,7 +4,8 @@ use Rattle.std.specs.Vec.Iter.{into_iter_items}
 use Rattle.std.proofs.lemmas.List.{nil_from_length}
 use Rattle.referencing.specs.ListedPlaces.{listed_of}
 use Rattle.ref_definitions.specs.World.{local_documents}
-use Rattle.ref_bundle.specs.inner.Seen.{seen_spot, see_listed, all_seen, gathered_places}
+use Rattle.ref_bundle.specs.inner.Seen.{see_listed, all_seen, gathered_places}
+use Rattle.ref_bundle.specs.Saying.{seen_spot}
 use Rattle.ref_bundle.proofs.Gathering.{gathered_append, all_gathered, items}
 use Rattle.ref_bundle.proofs.own.groups_of.Goals as goal
 

@@ -3,7 +3,8 @@ use Rattle.std.specs.Vec.Iter.{into_iter_items, into_iter_len}
 use Rattle.ref_definitions.specs.Listing.{local_places}
 use Rattle.referencing.specs.ListedPlaces.{listed_of}
 use Rattle.ref_definitions.specs.World.{local_documents}
-use Rattle.ref_bundle.specs.inner.Seen.{seen_spot, all_seen, gathered_places}
+use Rattle.ref_bundle.specs.inner.Seen.{all_seen, gathered_places}
+use Rattle.ref_bundle.specs.Saying.{seen_spot}
 use Rattle.ref_bundle.proofs.own.groups_of.Given as goal
 
 abbrev pub invariant-loop-place : goal.invariant-loop-place

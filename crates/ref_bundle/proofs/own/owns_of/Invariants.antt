@@ -1,7 +1,7 @@
 use Rattle.std.proofs.Common.{◌≡◌, map, length}
 use Rattle.std.specs.Vec.Iter.{into_iter_items, into_iter_len}
 use Rattle.ref_definitions.specs.World.{local_documents}
-use Rattle.ref_bundle.specs.inner.Seen.{seen_spot}
+use Rattle.ref_bundle.specs.Saying.{seen_spot}
 use Rattle.ref_bundle.proofs.Gathering.{IsPartly}
 use Rattle.ref_bundle.proofs.own.owns_of.Given as goal
 

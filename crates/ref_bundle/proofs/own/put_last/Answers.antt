@@ -1,6 +1,7 @@
 use Rattle.std.proofs.Common.{◌≡◌, ◌++◌, ◌∷◌, [], map, ap, sym, ◌∙◌, rules}
 use Rattle.std.proofs.lemmas.List.{map-append}
-use Rattle.ref_bundle.specs.inner.Seen.{seen_spot, put_last}
+use Rattle.ref_bundle.specs.inner.Seen.{put_last}
+use Rattle.ref_bundle.specs.Saying.{seen_spot}
 use Rattle.ref_bundle.proofs.Gathering.{put_last_is, items}
 use Rattle.ref_bundle.proofs.own.put_last.Goals as goal
 

@@ -2,7 +2,7 @@ use Rattle.std.proofs.Common.{◌≡◌, map, flat_map, take}
 use Rattle.std.specs.Option.{option_to_list}
 use Rattle.ref_definitions.specs.World.{Layer}
 use Rattle.ref_bundle.specs.Needed.{document_under, targets_from}
-use Rattle.ref_bundle.specs.inner.Seen.{seen_spot}
+use Rattle.ref_bundle.specs.Saying.{seen_spot}
 use Rattle.ref_bundle.specs.inner.Tables.{AreTables}
 use Rattle.ref_bundle.proofs.reach.referred.Given as goal
 

@@ -4,7 +4,7 @@ use Rattle.ref_definitions.specs.World.{Layer}
 use Rattle.ref_bundle.proofs.Lists.{got}
 use Rattle.ref_bundle.specs.Needed.{Site, site_under}
 use Rattle.ref_bundle.specs.Bundle.{root_problems, embedded_problems}
-use Rattle.ref_bundle.specs.Saying.{problem_said}
+use Rattle.ref_bundle.specs.Saying.{further_of, problem_said}
 use Rattle.ref_bundle.specs.inner.Seen.{document_in, layer_in, numbered_part, seen_reference}
 use Rattle.ref_bundle.specs.inner.Tables.{site_of}
 use Rattle.ref_bundle.specs.inner.First.{first}
@@ -25,7 +25,7 @@ returns-then-site-among c =
     let same : (site.document == c.args.among.now.top.now.number) ≡ true = search rules in
     let path : map part_of c.as_slice-path.result.now ≡ map part_of site.path.items = search rules in
     subst (λ t. IfOk c.root_problem.result (λ o. option_map problem_said o ≡ t))
-    (ap (λ p. first (root_problems layer (numbered_part c.args.among.now.top.now) r p)) path ∙ ap first (of_top layer c.args.among.now.bearers.now.registry.now (numbered_part c.args.among.now.top.now) r (site_of site) under same)) c.root_problem.ensures
+    (ap (λ p. first (root_problems layer (further_of c.args.among.now.further.now) (numbered_part c.args.among.now.top.now) r p)) path ∙ ap first (of_top layer (further_of c.args.among.now.further.now) c.args.among.now.bearers.now.registry.now (numbered_part c.args.among.now.top.now) r (site_of site) under same)) c.root_problem.ensures
 
 pub returns-in-Some-get : goal.returns-in-Some-get
 returns-in-Some-get c =
@@ -39,7 +39,7 @@ returns-in-Some-get c =
     let at = document_at document_in owns (layer_in owns) n (Some c.in-Some-get.own.now) refl there in
     let d = document_in c.in-Some-get.own.now in
     subst (λ t. IfOk c.embedded_problem.result (λ o. option_map problem_said o ≡ t))
-    (ap (λ p. first (embedded_problems c.args.among.now.top.now.draft r p d)) path ∙ ap first (embedded_is (layer_in owns) c.args.among.now.bearers.now.registry.now (numbered_part c.args.among.now.top.now) r (site_of c.in-Some.site.now) d under other at)) c.embedded_problem.ensures
+    (ap (λ p. first (embedded_problems c.args.among.now.top.now.draft r p d)) path ∙ ap first (embedded_is (layer_in owns) (further_of c.args.among.now.further.now) c.args.among.now.bearers.now.registry.now (numbered_part c.args.among.now.top.now) r (site_of c.in-Some.site.now) d under other at)) c.embedded_problem.ensures
 
 pub returns-in-None : goal.returns-in-None
 returns-in-None c =
@@ -50,4 +50,4 @@ returns-in-None c =
     let there : slice_get owns n ≡ None = sym (got owns n c.get.result c.get.ensures.lookup) ∙ search rules in
     let other : (n == c.args.among.now.top.now.number) ≡ false = search rules in
     let at = document_at document_in owns (layer_in owns) n None refl there in
-    ap first (embedded_not (layer_in owns) c.args.among.now.bearers.now.registry.now (numbered_part c.args.among.now.top.now) r (site_of c.in-Some.site.now) under other at)
+    ap first (embedded_not (layer_in owns) (further_of c.args.among.now.further.now) c.args.among.now.bearers.now.registry.now (numbered_part c.args.among.now.top.now) r (site_of c.in-Some.site.now) under other at)

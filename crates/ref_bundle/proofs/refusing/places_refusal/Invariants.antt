@@ -1,7 +1,8 @@
 use Rattle.std.proofs.Common.{◌≡◌, map, flat_map, take, None}
-use Rattle.ref_bundle.specs.inner.Seen.{seen_spot, layer_in, numbered_part}
+use Rattle.ref_bundle.specs.inner.Seen.{layer_in, numbered_part}
+use Rattle.ref_bundle.specs.Saying.{further_of, seen_spot}
 use Rattle.ref_bundle.specs.inner.First.{first, refusals_seen}
 use Rattle.ref_bundle.proofs.refusing.places_refusal.Given as goal
 
 abbrev pub invariant-loop-spot : goal.invariant-loop-spot
-invariant-loop-spot l = first (flat_map (refusals_seen (layer_in l.among.owns.now) l.among.bearers.now.registry.now (numbered_part l.among.top.now) l.own.uri.now) (map seen_spot (take l.spot-index l.spot-items))) ≡ None
+invariant-loop-spot l = first (flat_map (refusals_seen (layer_in l.among.owns.now) (further_of l.among.further.now) l.among.bearers.now.registry.now (numbered_part l.among.top.now) l.own.uri.now) (map seen_spot (take l.spot-index l.spot-items))) ≡ None

@@ -3,8 +3,8 @@ use Rattle.std.specs.Option.{option_to_list}
 use Rattle.ref_paths.specs.Path.{path_eq}
 use Rattle.ref_bundle.specs.Needed.{sites_of_uris}
 use Rattle.ref_bundle.specs.Bundle.{shared_uri}
-use Rattle.ref_bundle.specs.Saying.{problem_said}
-use Rattle.ref_bundle.specs.inner.Seen.{seen_spot, own_uri_of}
+use Rattle.ref_bundle.specs.Saying.{problem_said, seen_spot}
+use Rattle.ref_bundle.specs.inner.Seen.{own_uri_of}
 use Rattle.ref_bundle.specs.inner.First.{first, first_found, shared_seen}
 use Rattle.ref_bundle.proofs.Firsts.{passed_on, shared_parts}
 use Rattle.ref_bundle.proofs.refusing.shared_uris.Goals as goal

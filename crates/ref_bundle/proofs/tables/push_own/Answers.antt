@@ -1,5 +1,6 @@
 use Rattle.std.proofs.Common.{◌≡◌, ◌++◌, [], ◌∷◌, map, flat_map, filter, option_map, OnOk, subst, ap, ◌∙◌, append_assoc, rules}
-use Rattle.ref_bundle.specs.inner.Seen.{seen_spot, numbered_document}
+use Rattle.ref_bundle.specs.inner.Seen.{numbered_document}
+use Rattle.ref_bundle.specs.Saying.{seen_spot}
 use Rattle.ref_bundle.specs.inner.Tables.{table_of, entry_under, is_other, borne_at}
 use Rattle.ref_bundle.proofs.Bearing.{of_document}
 use Rattle.ref_bundle.proofs.tables.push_own.Goals as goal

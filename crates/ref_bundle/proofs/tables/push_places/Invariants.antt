@@ -1,5 +1,5 @@
 use Rattle.std.proofs.Common.{◌≡◌, ◌++◌, map, flat_map, filter, take, option_map}
-use Rattle.ref_bundle.specs.inner.Seen.{seen_spot}
+use Rattle.ref_bundle.specs.Saying.{seen_spot}
 use Rattle.ref_bundle.specs.inner.Tables.{table_of, entry_under, is_other, borne_at}
 use Rattle.ref_bundle.proofs.tables.push_places.Given as goal
 
