@@ -87,6 +87,8 @@ class Registry {
         const answer = await this.patchsard.call("lookup", { registry: this.number, base, scope, reference });
         return Array.isArray(answer) ? answer.map((it) => (it.error ? it : this.#found(it))) : this.#found(answer);
     }
+    // The number under which the program keeps a scope: `scope` may be it, or end with it.
+    async keep(scope) { return (await this.patchsard.call("scope", { registry: this.number, scope })).scope; }
     close() { return this.patchsard.call("close", { registry: this.number }); }
     #found(answer) {
         if (answer.registry !== this.number) return this.parent.#found(answer);

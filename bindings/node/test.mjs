@@ -69,6 +69,18 @@ test("a registry behind another", async () => {
     assert.equal((await registry.lookup("https://example.com/part", "order#odd")).value, order.$defs["a/b~c"]);
 });
 
+test("a scope that is kept", async () => {
+    const [tree, strict] = ["tree", "strict"].map((it) => ({ $id: `https://example.com/${it}`, $dynamicAnchor: "node" }));
+    const registry = await patchsard.open([[tree.$id, tree], [strict.$id, strict]]);
+    const number = await registry.keep([strict.$id]);
+    for (const scope of [number, ["https://example.com/x", number]]) {
+        const found = await registry.lookup(tree.$id, "#node", scope);
+        assert.equal(found.value, strict);
+        assert.deepEqual(found.scope, [scope].flat());
+    }
+    await assert.rejects(registry.lookup(tree.$id, "#node", number + 1), { name: "UnknownScope", field: "scope" });
+});
+
 test("a program that ends", async () => {
     const other = new Patchsard();
     other.end();

@@ -2,7 +2,7 @@
 from typing import TYPE_CHECKING, Any
 
 from patchsard import exceptions, jsonschema
-from patchsard._core import Anchor, Dangling, Draft, Registry, Resolved, Resolver, Resource, Retrieved, from_yaml
+from patchsard._core import Anchor, Dangling, Draft, Registry, Resolved, Resolver, Resource, Retrieved, Surveyed, from_yaml
 from patchsard.exceptions import (
     CallRefused,
     CallTimedOut,
@@ -72,6 +72,7 @@ __all__ = [
     "Resource",
     "RetrievalLimit",
     "Retrieved",
+    "Surveyed",
     "UnknownSpecification",
     "Unresolvable",
     "Unretrievable",

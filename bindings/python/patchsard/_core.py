@@ -25,6 +25,11 @@ _OF_DRAFTS = ("http://json-schema.org/", "https://json-schema.org/")
 _DEPTH = 8
 # As many references are asked in one line.
 _MOST_AT_ONCE = 1000
+# A scope that is longer is asked with by the number under which the program keeps it, where it keeps no more than so many for a registry.
+_FRONT = 16
+_MOST_SCOPES = 1000
+# As many values a document may have whose parts are shared, since each is written out where it is.
+_MOST_VALUES = 10_000_000
 # As many answers of a registry are kept; a dynamic anchor's only where the scope isn't longer.
 _MOST_KEPT = 10000
 _LONG_SCOPE = 32
@@ -189,8 +194,8 @@ def _text(uri: str, resource: Resource) -> str:
     """The document as JSON. One that is read by a draft which it doesn't name says so in the text, at the end, where the last mention counts."""
     contents, draft = resource.contents, resource.specification
     try:
+        has_texts = _has_text_keys(uri, contents)
         text = _encode(contents)
-        has_texts = _has_text_keys(contents)
     except RecursionError:
         raise ValueError(f"The document {uri!r} nests too deep") from None
     except (TypeError, ValueError) as error:
@@ -202,21 +207,75 @@ def _text(uri: str, resource: Resource) -> str:
     return text
 
 
-def _has_text_keys(contents: Schema) -> bool:
-    """Whether the keys of all objects are texts: `json` would make some others texts."""
-    waiting = [contents]
+def _has_text_keys(uri: str, contents: Schema) -> bool:
+    """Whether the keys of all objects are texts: `json` would make some others texts. Each part is looked at once, also where it is shared."""
+    waiting, seen, again = [contents], set(), 0
     for value in waiting:
         kind = type(value)
         if kind is str:
             continue
         if kind is dict or isinstance(value, dict):
+            if id(value) in seen:
+                again += 1
+                continue
+            seen.add(id(value))
             for key in value:
                 if type(key) is not str and not isinstance(key, str):
                     return False
             waiting += value.values()
         elif kind is list or isinstance(value, (list, tuple)):
+            if id(value) in seen:
+                again += 1
+                continue
+            seen.add(id(value))
             waiting += value
+    # A part that is met again is at most in as many places as two to the number of those before it.
+    if again and len(waiting) << min(again * (again + 1) // 2, 64) > _MOST_VALUES:
+        _refuse_many(uri, contents)
     return True
+
+
+def _refuse_many(uri: str, contents: Schema) -> None:
+    """Refuses a document that has too many values once its shared parts are written out. One that has itself as a part is left to `json`, which refuses it."""
+    # How many values are written for each part; and the parts that others were gone into from, the innermost last, with what is left of each and how many values were met.
+    sizes: Dict[int, int] = {}
+    stack: List[List[Any]] = [[contents, iter([contents]), 0]]
+    above = {0}
+    while stack:
+        frame = stack[-1]
+        for it in frame[1]:
+            if not isinstance(it, (dict, list, tuple)):
+                frame[2] += 1
+            elif id(it) in sizes:
+                frame[2] += sizes[id(it)]
+            elif id(it) in above:
+                return
+            else:
+                above.add(id(it))
+                stack.append([it, iter(it.values() if isinstance(it, dict) else it), 1])
+                break
+        else:
+            value, _, size = stack.pop()
+            above.discard(id(value))
+            sizes[id(value)] = size
+            if size > _MOST_VALUES:
+                raise TypeError(f"document {uri!r}, at {_pointer_to(contents, value)!r}: with its shared parts written out it has more than {_MOST_VALUES:,} values")
+            if stack:
+                stack[-1][2] += size
+
+
+def _pointer_to(contents: Schema, part: Schema) -> str:
+    """A JSON Pointer that leads to a part of a document."""
+    waiting, seen = [("", contents)], {id(contents)}
+    for pointer, value in waiting:
+        if value is part:
+            return pointer
+        pairs = value.items() if isinstance(value, dict) else enumerate(value)
+        for key, below in pairs:
+            if isinstance(below, (dict, list, tuple)) and id(below) not in seen:
+                seen.add(id(below))
+                waiting.append((f"{pointer}/{str(key).replace('~', '~0').replace('/', '~1')}", below))
+    return ""
 
 
 def _located(uri: str, contents: Schema) -> Optional[Exception]:
@@ -273,7 +332,7 @@ class _Closed(ProcessEnded):
 class _Opened:
     """A registry as the program has it, until nothing refers to it."""
 
-    __slots__ = ("process", "number", "documents", "parent", "timeout", "share", "uris", "unmet", "identified", "kept", "close", "__weakref__")
+    __slots__ = ("process", "number", "documents", "parent", "timeout", "share", "uris", "unmet", "identified", "kept", "scopes", "close", "__weakref__")
 
     def __init__(self, process: _process.Process, number: int, documents: List[Schema], parent: Optional["_Opened"], timeout: Optional[float] = None, size: int = 0) -> None:
         self.process = process
@@ -287,6 +346,8 @@ class _Opened:
         self.identified: Dict[str, str] = {} if parent is None else dict(parent.identified)
         # Answers that were had before: an open registry doesn't change.
         self.kept: Dict[Any, Any] = {}
+        # The numbers of the scopes that the program keeps for it.
+        self.scopes: Dict[Tuple[str, ...], int] = {}
         self.timeout = timeout
         self.number = number
         self.documents = documents
@@ -346,9 +407,20 @@ class _Opened:
         answers = self.ask("", "lookup", f',"base":"json-schema:///","reference":{_encode(listed)}')
         return {uri for uri, answer in zip(listed, answers) if answer.get("error", {}).get("name") == "Unretrievable"}
 
+    def scope_number(self, scope: Tuple[str, ...], sent: Sequence[Union[str, int]]) -> Optional[int]:
+        """The number under which the program keeps a scope, which is sent so where it doesn't yet; none where it keeps many already."""
+        number = self.scopes.get(scope)
+        if number is None and len(self.scopes) < _MOST_SCOPES:
+            number = self.scopes[scope] = self.ask("", "scope", f',"scope":{_encode(sent)}')["scope"]
+        return number
+
     def ask(self, ref: str, call: str, members: str = "") -> Any:
         """What the program answers, or the exception for its error."""
-        answer = self.process.ask(f'{{"call":"{call}","registry":{self.number}{members}}}\n'.encode("utf-8"), self.timeout)
+        try:
+            line = f'{{"call":"{call}","registry":{self.number}{members}}}\n'.encode("utf-8")
+        except UnicodeEncodeError:
+            raise _half_pair(ref) from None
+        answer = self.process.ask(line, self.timeout)
         if "error" in answer:
             if answer["error"]["name"] == "UnknownRegistry":
                 raise _Closed(answer["error"]["message"])
@@ -369,6 +441,20 @@ class _Unmet(NamedTuple):
 def _listed(texts: Dict[str, str]) -> str:
     """Documents as members of a list in a call."""
     return ",".join(f"[{_encode(uri)},{text}]" for uri, text in texts.items())
+
+
+def _is_sendable(text: str) -> bool:
+    """Whether a text has no half of a surrogate pair, which can't be sent."""
+    try:
+        text.encode("utf-8")
+    except UnicodeEncodeError:
+        return False
+    return True
+
+
+def _half_pair(ref: str) -> InvalidUri:
+    """The error of a reference that can't be sent."""
+    return InvalidUri(ref, "Invalid URI reference: half of a surrogate pair is no character")
 
 
 def _sent(line: str, *documents: Dict[str, str]) -> bytes:
@@ -437,7 +523,7 @@ def _meta_schemas() -> List[Tuple[str, Schema]]:
     return [(uri, resource.contents) for uri, resource in REGISTRY.items() if _named(resource.contents)]
 
 
-def _meta(process: _process.Process, is_wanted: bool) -> Optional[_Opened]:
+def _meta(process: _process.Process, is_wanted: bool, timeout: Optional[float] = None) -> Optional[_Opened]:
     """The registry of the meta-schemas, which is the parent of every other, opened once in a process; none where they are not wanted and would have to be imported,
     which takes longer than all else."""
     if process.meta is None:
@@ -448,7 +534,7 @@ def _meta(process: _process.Process, is_wanted: bool) -> Optional[_Opened]:
             process.meta = ()
         else:
             line = f'{{"call":"open","documents":{_encode(documents)}}}\n'.encode("utf-8")
-            answer = process.ask(line)
+            answer = process.ask(line, timeout)
             if "error" in answer:
                 raise from_answer(answer["error"], "")
             process.meta = _Opened(process, answer["result"]["registry"], [contents for _, contents in documents], None, None, len(line))
@@ -693,6 +779,23 @@ class Registry(Mapping[str, Resource]):
 
         return self._as_one()._opened_as_far()._again(listed)
 
+    def survey(self) -> "List[Surveyed]":
+        """What `patchsard lint` looks at beside what keywords lead to: the objects of descriptions of OpenAPI and Swagger, what their references lead to, and what references of
+        schemas lead to where no keyword does, each once.
+
+        >>> [(it.pointer, it.kind, it.version) for it in Registry({"u:a": {"openapi": "3.0.3", "paths": {"/a": {"$ref": "#/x-a"}}, "x-a": {}}}).survey()]
+        [('', 'description', '3.0'), ('/paths', 'paths object', '3.0'), ('/paths/~1a', 'path item', '3.0'), ('/x-a', 'path item', '3.0')]
+        """
+
+        def listed(opened: _Opened) -> List[Surveyed]:
+            documents = opened.documents
+            return [
+                Surveyed(documents[it["document"]], it["pointer"], it["base"], it["kind"], it.get("version"), _BY_NAME.get(it.get("draft", "")))
+                for it in opened.ask("", "survey")
+            ]
+
+        return self._as_one()._opened_as_far()._again(listed)
+
     def bundle(self, uri: str) -> Schema:
         """A document with all others that it needs in it, as a new value. With `allow_missing` references to documents that aren't there stay as they are.
 
@@ -867,7 +970,7 @@ class Registry(Mapping[str, Resource]):
 
     def _opened_in(self, process: _process.Process) -> _Opened:
         below = self._parent if self._parent is not None else self._base
-        parent = below._open() if below is not None else _meta(process, self._with_meta)
+        parent = below._open() if below is not None else _meta(process, self._with_meta, self._timeout)
         texts = {uri: _text(uri, resource) for uri, resource in self._documents.items()}
         retrieved = dict(self._retrieved)
         remote = {uri: _text(uri, resource) for uri, resource in retrieved.items()}
@@ -969,10 +1072,10 @@ class Registry(Mapping[str, Resource]):
     ) -> None:
         """Retrieves what documents want, asking about each by itself, and then about what was retrieved. By `open` of all together each would be sent again for
         each that is retrieved. What can't be had is left to that `open`, which decides."""
-        answer = process.ask(f'{self._members(parent)},"documents":[{_listed(dict.fromkeys(texts, "true"))}]}}\n'.encode("utf-8"))
+        answer = process.ask(f'{self._members(parent)},"documents":[{_listed(dict.fromkeys(texts, "true"))}]}}\n'.encode("utf-8"), self._timeout)
         if "error" in answer:
             return
-        stubs = _Opened(process, answer["result"]["registry"], [], parent)
+        stubs = _Opened(process, answer["result"]["registry"], [], parent, self._timeout)
         known = {*answer["result"]["documents"], *remote}
         most = 10000 if self._limit is None else self._limit
         level = {**texts, **remote}
@@ -1005,9 +1108,9 @@ class Registry(Mapping[str, Resource]):
         head = f'{self._members(stubs)},"documents":[{_listed({uri: text})}],"remote":['
         while True:
             stub = f'{{"$schema":"{self._draft.uri}"}}'
-            answer = stubs.process.ask(f"{head}{_listed(dict.fromkeys(wants, stub))}]}}\n".encode("utf-8"))
+            answer = stubs.process.ask(f"{head}{_listed(dict.fromkeys(wants, stub))}]}}\n".encode("utf-8"), self._timeout)
             if "error" not in answer:
-                opened = _Opened(stubs.process, answer["result"]["registry"], [], stubs)
+                opened = _Opened(stubs.process, answer["result"]["registry"], [], stubs, self._timeout)
                 return wants, {it["base"] for it in opened.ask("", "places") if it["document"] == 0}
             error = from_answer(answer["error"], answer["error"].get("uri", ""))
             if not isinstance(error, Unretrievable) or error.uri is None or error.uri in wants:
@@ -1091,6 +1194,31 @@ class Dangling(NamedTuple):
         return _at(self.document, self.pointer)
 
 
+class Surveyed(NamedTuple):
+    """A place of a document: the document, the pointer to the place there, its base URI, the kind of object that it is (`"schema"`, `"path item"`, ..), the version of the
+    description that it is in, and of a schema that is read by a draft of JSON Schema the draft."""
+
+    document: Schema
+    pointer: str
+    base_uri: str
+    kind: str
+    version: Optional[str]
+    specification: Optional[Draft]
+
+    @property
+    def contents(self) -> Schema:
+        """What is there."""
+        return _at(self.document, self.pointer)
+
+
+class _End(NamedTuple):
+    """The end of a scope that the program keeps: of which opened registry, its number, and how many URIs it has."""
+
+    opened: "weakref.ReferenceType[_Opened]"
+    number: int
+    length: int
+
+
 # An answer to a look-up: the value, the base there, the scope in front of the one that was asked with, and the draft.
 _Found = Tuple[Schema, str, Tuple[str, ...], str]
 
@@ -1118,12 +1246,17 @@ def _is_dynamic(found: Schema, ref: str) -> bool:
 class Resolver:
     """Looks references up from a base URI. It is made by a registry, and doesn't change."""
 
-    __slots__ = ("_registry", "_base_uri", "_scope")
+    __slots__ = ("_registry", "_base_uri", "_scope", "_end")
 
-    def __init__(self, registry: Registry, base_uri: str, scope: Sequence[str]) -> None:
+    def __init__(self, registry: Registry, base_uri: str, scope: Sequence[str], end: "Optional[_End]" = None) -> None:
         self._registry = registry
         self._base_uri = base_uri
         self._scope = tuple(scope)
+        # The end of the scope that the program keeps, where it keeps one.
+        self._end = end
+
+    def __reduce__(self) -> Tuple[Any, ...]:
+        return Resolver, (self._registry, self._base_uri, self._scope)
 
     @property
     def base_uri(self) -> str:
@@ -1174,6 +1307,12 @@ class Resolver:
                 left.append(number)
             else:
                 found[number] = self._from(before)
+        if left and not _is_sendable("".join(refs)):
+            for number in [it for it in left if not _is_sendable(refs[it])]:
+                found[number] = _half_pair(refs[number])
+                if not return_exceptions:
+                    raise found[number]
+                left.remove(number)
         if left:
             asked = [refs[number] for number in left]
             for number, it in zip(left, self._all_asked(opened, asked, return_exceptions)):
@@ -1182,8 +1321,8 @@ class Resolver:
 
     def _all_asked(self, opened: _Opened, refs: List[str], return_exceptions: bool) -> Iterator[Any]:
         by_scope = [_is_by_scope(ref) for ref in refs]
-        value, identified, scope = opened.value, opened.identified, self._sent_scope(any(by_scope))
-        rest, is_first, base = self._rest(scope), not self._scope, self._base_uri
+        value, identified, scope = opened.value, opened.identified, self._sent_scope(opened, any(by_scope))
+        is_first, base = not self._scope, self._base_uri
         kept = opened.room_for(len(refs))
         last_base, last_scope, last = None, None, self
         for ref, may_be_dynamic, answer in zip(refs, by_scope, opened.ask("", "lookup", self._members(opened, scope) + ',"reference":' + _encode(refs))):
@@ -1197,8 +1336,8 @@ class Resolver:
                     if answer["base"] != last_base or answer["scope"] != last_scope:
                         # Most of a list lead to places with the same base and scope.
                         last_base, last_scope = answer["base"], answer["scope"]
-                        last = Resolver(self._registry, last_base, (*last_scope, *rest))
                         in_front = tuple(last_scope[: len(last_scope) - len(scope)])
+                        last = Resolver(self._registry, last_base, in_front + self._scope, self._end)
                     if not may_be_dynamic or not _is_dynamic(contents, ref):
                         kept[base, ref, is_first] = (contents, last_base, in_front, answer["draft"])
                     yield Resolved(contents, last, answer["draft"])
@@ -1239,14 +1378,15 @@ class Resolver:
                 raise
             # An identifier that is no URI reference counts as none.
             return self
-        return self if base == self._base_uri else Resolver(self._registry, base, self._scope)
+        return self if base == self._base_uri else Resolver(self._registry, base, self._scope, self._end)
 
     def lookup_recursive_ref(self) -> Resolved:
         """Where `$recursiveRef` leads, in 2019-09."""
 
         def found(opened: _Opened) -> Resolved:
-            answer = opened.ask("#", "recursive", self._members(opened, self._scope))
-            return self._resolved(opened.value(answer), answer["base"], answer["scope"], answer["draft"])
+            sent = self._sent_scope(opened, True)
+            answer = opened.ask("#", "recursive", self._members(opened, sent))
+            return self._from((opened.value(answer), answer["base"], tuple(answer["scope"][: len(answer["scope"]) - len(sent)]), answer["draft"]))
 
         return self._registry._again(found)
 
@@ -1259,30 +1399,34 @@ class Resolver:
     def __repr__(self) -> str:
         return f"<Resolver at {self._base_uri!r}>"
 
-    def _members(self, opened: _Opened, scope: Sequence[str]) -> str:
+    def _members(self, opened: _Opened, scope: Sequence[Union[str, int]]) -> str:
         base = self._base_uri
         return f',"base":{_encode(opened.identified.get(base, base))},"scope":{_encode(scope)}'
 
-    def _sent_scope(self, is_by_scope: bool) -> Tuple[str, ...]:
-        """As much of the scope as matters: all of it to a dynamic anchor; to others whether it is empty, so that the innermost is enough."""
-        return self._scope if is_by_scope else self._scope[:1]
-
-    def _rest(self, sent: Tuple[str, ...]) -> Tuple[str, ...]:
-        """What is behind the scope that was sent."""
-        return self._scope[len(sent) :]
-
-    def _resolved(self, contents: Schema, base: str, scope: Sequence[str], draft: str) -> Resolved:
-        return Resolved(contents, Resolver(self._registry, base, scope), draft)
+    def _sent_scope(self, opened: _Opened, is_by_scope: bool) -> Tuple[Union[str, int], ...]:
+        """As much of the scope as matters: all of it to a dynamic anchor; to others whether it is empty, so that the innermost is enough. Of a long one the program keeps the end."""
+        if not is_by_scope:
+            return self._scope[:1]
+        scope, end = self._scope, self._end
+        if end is not None and end.opened() is not opened:
+            self._end = end = None
+        front: Tuple[Union[str, int], ...] = scope if end is None else (*scope[: len(scope) - end.length], end.number)
+        if len(front) > _FRONT:
+            number = opened.scope_number(scope, front)
+            if number is not None:
+                self._end, front = _End(weakref.ref(opened), number, len(scope)), (number,)
+        return front
 
     def _found(self, opened: _Opened, ref: str) -> Resolved:
         """Where a reference leads in the opened registry."""
-        is_by_scope, scope = _is_by_scope(ref), self._scope
-        key = (self._base_uri, ref, not scope)
+        is_by_scope = _is_by_scope(ref)
+        key: Any = (self._base_uri, ref, not self._scope)
         found = opened.kept.get(key)
-        if found is None and is_by_scope and len(scope) <= _LONG_SCOPE:
-            found = opened.kept.get((self._base_uri, ref, scope))
         if found is None:
-            sent = self._sent_scope(is_by_scope)
+            sent = self._sent_scope(opened, is_by_scope)
+            if is_by_scope and len(sent) <= _LONG_SCOPE:
+                found = opened.kept.get((self._base_uri, ref, sent))
+        if found is None:
             members = self._members(opened, sent)
             answer = opened.ask(ref, "lookup", members + ',"reference":' + _encode(ref))
             before = tuple(answer["scope"][: len(answer["scope"]) - len(sent)])
@@ -1292,14 +1436,14 @@ class Resolver:
             found = (contents, answer["base"], before, answer["draft"])
             if not is_by_scope or not _is_dynamic(contents, ref):
                 opened.keep(key, found)
-            elif len(scope) <= _LONG_SCOPE:
-                opened.keep((self._base_uri, ref, scope), found)
+            elif len(sent) <= _LONG_SCOPE:
+                opened.keep((self._base_uri, ref, sent), found)
         return self._from(found)
 
     def _from(self, found: _Found) -> Resolved:
         """What was found, from here."""
         contents, base, in_front, draft = found
-        return Resolved(contents, Resolver(self._registry, base, in_front + self._scope if in_front else self._scope), draft)
+        return Resolved(contents, Resolver(self._registry, base, in_front + self._scope if in_front else self._scope, self._end), draft)
 
     def _identified(self, opened: _Opened, ref: str, members: str, answer: Dict[str, Any]) -> Dict[str, Any]:
         """The answer to a look-up, with the base that a document's own identifier gives (RFC 3986, 5.1.1 goes before 5.1.3), also where the reference names the document by the

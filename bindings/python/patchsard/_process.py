@@ -21,6 +21,11 @@ _MOST_HELD = 4 << 20
 _decoded = json.JSONDecoder().scan_once
 
 
+def _has_members(line: bytes) -> bool:
+    """Whether a line is a call, to which an `id` can be added."""
+    return line[:7] == b'{"call"'
+
+
 def program_beside() -> Optional[str]:
     """The path of the program that a wheel with the program has in the package."""
     path = os.path.join(os.path.dirname(os.path.abspath(__file__)), "bin", "patchsard")
@@ -87,6 +92,8 @@ class Process:
         self._open_bytes = self._kept_bytes = self._freed_bytes = 0
         self._open_count = 0
         self._to_count: Deque[int] = collections.deque()
+        # The number of the last call, which its answer gives back.
+        self._number = 0
         self.asked = False
         self.ended = False
         self.meta: Any = None
@@ -128,6 +135,7 @@ class Process:
             try:
                 self._close_waiting(until)
                 answer = self._exchange(line, until)
+                number = self._number if _has_members(line) else None
             finally:
                 self._asking = before
         finally:
@@ -138,7 +146,19 @@ class Process:
             raise ProcessEnded(f"{self._program} answers what is no JSON") from None
         if not isinstance(decoded, dict) or "result" not in decoded and "error" not in decoded:
             raise ProgramNotFound(f"{self._program} answers what is no answer of `patchsard serve`")
+        if decoded.get("id") != number:
+            self._has_answered(decoded)
         return decoded
+
+    def _has_answered(self, decoded: Dict[str, Any]) -> None:
+        """Whether an answer without the number of its call is one to it: where memory ran out there is none, and where a line is no JSON. Else the program is ended, so that no
+        call gets the answer to another."""
+        if "id" not in decoded and "error" in decoded:
+            return
+        self.stop()
+        if "id" not in decoded:
+            raise ProgramNotFound(f"{self._program} answers without the id of the call, as `patchsard serve` doesn't")
+        raise ProcessEnded(f"{self._program} answered another call than the last, and was ended")
 
     def opened(self, size: int) -> Share:
         """What a registry has that was opened, of so many bytes of documents."""
@@ -213,6 +233,9 @@ class Process:
             self._end(is_answering=True)
         if self.ended:
             raise ProcessEnded("The program patchsard has ended")
+        if _has_members(line):
+            self._number += 1
+            line = b"".join((b'{"id":%d,' % self._number, memoryview(line)[1:]))
         try:
             self._is_amid = self.asked = True
             try:

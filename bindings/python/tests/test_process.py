@@ -106,6 +106,43 @@ class OneProcess(unittest.TestCase):
         self.assertIs(resolver.lookup("#/$defs/3").contents, SCHEMA["$defs"]["3"])
         self.assertIs(resolver.lookup("#/$defs/4").contents, SCHEMA["$defs"]["4"])
 
+    def test_an_answer_to_another_call(self):
+        resolver = registry().resolver("https://example.com/a")
+        resolver.lookup("#/$defs/1")
+        process, exchange = _process.shared(), _process.Process._exchange
+        stale = exchange(process, b'{"call":"hello"}\n')
+
+        def late(self, line, until=None):
+            if self is not process:
+                return exchange(self, line, until)
+            self._number += 1
+            return stale
+
+        with mock.patch.object(_process.Process, "_exchange", late):
+            self.assertIs(resolver.lookup("#/$defs/2").contents, SCHEMA["$defs"]["2"])
+        self.assertTrue(process.ended)
+        self.assertIs(resolver.lookup("#/$defs/3").contents, SCHEMA["$defs"]["3"])
+
+    def test_an_answer_without_the_number_of_its_call(self):
+        asked = []
+        exchange = _process.Process._exchange
+
+        def seen(self, line, until=None):
+            answer = exchange(self, line, until)
+            asked.append((line, answer))
+            return answer
+
+        with mock.patch.object(_process.Process, "_exchange", seen):
+            broken = b'{"call":"lookup","base":\n'
+            self.assertEqual(_process.shared().ask(broken)["error"]["name"], "NotJson")
+            resolver = registry().resolver("https://example.com/a")
+            resolver.lookup("#/$defs/1")
+        self.assertNotIn(b'"id"', dict(asked)[broken])
+        others = [answer for line, answer in asked if line != broken]
+        self.assertGreater(len(others), 1)
+        for answer in others:
+            self.assertRegex(answer.decode(), r'^{"id":\d+,"result":')
+
     def test_a_process_that_is_killed_at_each_call(self):
         asked = []
 
@@ -401,7 +438,7 @@ class WhereTheProgramIs(unittest.TestCase):
                 registry().crawl()
 
     def test_a_program_of_another_protocol(self):
-        for answer in ('{"result":{}}', '{"result":[]}', '{"result":{"registry":0}}', "{}", "[]", "null"):
+        for answer in ('{"result":{}}', '{"result":[]}', '{"result":{"registry":0}}', '{"id":1,"result":{"registry":0}}', "{}", "[]", "null"):
             with tempfile.TemporaryDirectory() as room:
                 path = os.path.join(room, "other")
                 with open(path, "w", encoding="utf-8") as file:

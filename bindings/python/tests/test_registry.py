@@ -1,4 +1,5 @@
 """What registries and resolvers answer."""
+import datetime
 import gc
 import importlib.util
 import os
@@ -82,8 +83,13 @@ class Lookups(unittest.TestCase):
         for ref, kind in [("#/allOf/x", patchsard.InvalidArrayIndex), ("#/%FF", patchsard.InvalidPercentEncoding), ("http://[", patchsard.InvalidUri)]:
             with self.subTest(ref), self.assertRaises(kind):
                 self.resolver.lookup(ref)
-        with self.assertRaises(ValueError):
-            self.resolver.lookup("#\ud800")
+        for lookup in (self.resolver.lookup, lambda ref: self.resolver.lookup_all(["#", ref])):
+            with self.assertRaises(patchsard.InvalidUri) as raised:
+                lookup("#\ud800")
+            self.assertEqual(raised.exception.ref, "#\ud800")
+        found = self.resolver.lookup_all(["#odd", "#\ud800", "#"], return_exceptions=True)
+        self.assertEqual([type(it) for it in found], [patchsard.Resolved, patchsard.InvalidUri, patchsard.Resolved])
+        self.assertIs(found[2].contents, self.order)
 
     def test_several_at_once(self):
         refs = ["#/$defs/item", "#odd", "#/$defs/itme"]
@@ -342,10 +348,23 @@ class Registries(unittest.TestCase):
             Registry().with_resource("u:a", deep).crawl()
         while deep:
             deep = deep["not"]
+        for value, pointer in (({"a": [{1: 2}]}, "/a/0"), ({"b/": {"c": float("nan")}}, "/b~1/c"), ({"a": {"d": datetime.date(2026, 1, 1)}}, "/a/d")):
+            with self.assertRaises((TypeError, ValueError)) as raised:
+                Registry().with_resource("u:a", value).crawl()
+            self.assertIn(f"document 'u:a', at {pointer!r}", str(raised.exception))
         circle = []
         circle.append(circle)
         with self.assertRaises(ValueError):
             Registry().with_resource("u:a", circle).crawl()
+        # Parts that are shared are written out where they are, as long as there aren't too many.
+        shared = {"const": [1, 2]}
+        resolver = Registry().with_resource("u:a", {"$defs": {str(it): shared for it in range(30)}, "allOf": [shared] * 3}).resolver("u:a")
+        for ref in ("#/$defs/7", "#/allOf/2"):
+            self.assertIs(resolver.lookup(ref).contents, shared)
+        for _ in range(60):
+            shared = {"allOf": [shared, shared]}
+        with self.assertRaisesRegex(TypeError, "document 'u:a', at '/not/allOf"):
+            Registry().with_resource("u:a", {"not": shared}).crawl()
         self.assertEqual(Registry().with_resource("u:a", {"a": ({"b": 1.5}, None, "\n\u2028é")}).resolver("u:a").lookup("#/a/0/b").contents, 1.5)
 
     def test_a_closed_registry_is_opened_anew(self):
@@ -640,6 +659,61 @@ class Asked(unittest.TestCase):
         before = len(self.lines)
         resolver.lookup("17#/$defs")
         self.assertLess(len(self.lines[before]), 200)
+
+    def test_dynamic_anchors_in_deep_scopes(self):
+        """A deep scope is asked with by the number under which the program keeps its end: each answer is that to the whole scope, and lines stay short."""
+        uris = [f"https://example.com/{it}" for it in range(120)]
+        documents = {uri: {"$defs": {"n": {"$dynamicAnchor": "n", "const": it}}} for it, uri in enumerate(uris) if it % 7 == 3}
+        documents.update({uri: {"$defs": {"p": {"$anchor": "p"}}} for uri in uris if uri not in documents})
+        with Registry(documents) as registry:
+            opened = registry._open()
+            resolver = registry.resolver(uris[3])
+            for it in range(4, 120):
+                resolver = resolver.lookup(uris[it]).resolver
+                inside = resolver.lookup(f"{uris[3]}#n")
+                whole = f',"base":"{resolver.base_uri}","scope":{patchsard._core._encode(list(resolver._scope))},"reference":"{uris[3]}#n"'
+                answer = opened.ask("", "lookup", whole)
+                self.assertIs(inside.contents, opened.value(answer))
+                self.assertEqual((inside.resolver.base_uri, list(inside.resolver._scope)), (answer["base"], answer["scope"]))
+            self.assertGreater(len(resolver._scope), 110)
+            self.assertLess(len(self.calls("scope")), 10)
+            before = len(self.lines)
+            self.assertEqual(resolver.lookup(f"{uris[10]}#n").contents["const"], 3)
+            self.assertEqual(resolver.lookup_all([f"{uris[17]}#n", f"{uris[4]}#p"])[0].contents["const"], 3)
+            self.assertEqual(resolver.lookup(f"{uris[10]}#n").contents["const"], 3)
+            self.assertLess(sum(map(len, self.lines[before:])), 4000)
+            # Another way to the same scope has the same number, and a copy its own program's.
+            again = registry.resolver(uris[3])
+            for it in range(4, 120):
+                again = again.lookup(uris[it]).resolver
+            count = len(self.calls("scope"))
+            self.assertEqual(again, resolver)
+            self.assertEqual(again.lookup(f"{uris[24]}#n").contents["const"], 3)
+            self.assertLessEqual(len(self.calls("scope")), count + 1)
+        self.assertEqual(resolver.lookup(f"{uris[10]}#n").contents["const"], 3)
+        with mock.patch.object(patchsard._core, "_MOST_SCOPES", 0):
+            registry.close()
+            self.assertEqual(resolver.lookup(f"{uris[31]}#n").contents["const"], 3)
+
+    def test_recursive_references_in_deep_scopes(self):
+        documents = {f"u:{it}": {"$schema": DRAFT201909.uri, "$recursiveAnchor": True, "const": it} for it in range(60)}
+        registry = Registry(documents)
+        resolver = registry.resolver("u:0")
+        for it in range(1, 60):
+            resolver = resolver.lookup(f"u:{it}").resolver
+        found = resolver.lookup_recursive_ref()
+        self.assertEqual(found.contents["const"], 0)
+        self.assertEqual([uri for uri, _ in found.resolver.dynamic_scope()], [f"u:{it}" for it in range(59, -1, -1)])
+
+    def test_a_missing_document_costs_the_others_nothing(self):
+        """Of a registry that can't be opened as a whole the documents are sent as often as there are ways to open it, and not for each validator."""
+        documents = {f"https://example.com/{it}": {"$defs": {"t": {"const": "x" * 200}}} for it in range(50)}
+        documents["https://example.com/0"]["not"] = {"$ref": "gone.json"}
+        registry = Registry(documents)
+        for _ in range(10):
+            resolver = registry.resolver_with_root({"$ref": "https://example.com/7#/$defs/t"})
+            self.assertEqual(resolver.lookup("https://example.com/7#/$defs/t").contents, documents["https://example.com/7"]["$defs"]["t"])
+        self.assertLess(sum(len(line) for line in self.lines if b"x" * 200 in line), 5 * 50 * 300)
 
     def test_what_is_kept_has_an_end(self):
         resolver = Registry({"u:a": {"$defs": {str(it): {"const": it} for it in range(200)}}}).resolver("u:a")

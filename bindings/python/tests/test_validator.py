@@ -1,4 +1,5 @@
 """Validators of Python's `jsonschema`, where it is installed."""
+import copy
 import unittest
 
 from patchsard import Registry, Unresolvable
@@ -110,6 +111,30 @@ class Validators(unittest.TestCase):
         for ref, decided in (("", [True, False]), ("#", [True, False]), ("#/$defs/x", [True, False]), ("#/$defs/y", [False, True])):
             validator = validator_for({"$ref": "file:///a/d1" + ref}, registry=registry)
             self.assertEqual([validator.is_valid(it) for it in ("a", 1)], decided, ref)
+
+    def test_copies(self):
+        validator = validator_for({"$id": "https://example.com/a", "$ref": "b"}, registry=Registry({"https://example.com/b": {"type": "string"}}))
+        self.assertTrue(validator.is_valid("a"))
+        for copied in (copy.copy(validator), copy.deepcopy(validator)):
+            self.assertEqual([copied.is_valid(it) for it in ("a", 1)], [True, False])
+
+    def test_a_registry_that_is_given_to_jsonschema(self):
+        with self.assertRaisesRegex(TypeError, "validator_for"):
+            jsonschema.Draft202012Validator({"$ref": "#"}, registry=Registry()).is_valid(1)
+
+    def test_deep_instances(self):
+        """Dynamic references at a depth at which the program keeps scopes."""
+        tree = {"$id": "https://example.com/tree", "$dynamicAnchor": "node", "type": "object", "properties": {"next": {"$dynamicRef": "#node"}}}
+        strict = {"$id": "https://example.com/strict", "$dynamicAnchor": "node", "$ref": "tree", "unevaluatedProperties": False}
+        registry = {it["$id"]: it for it in (tree, strict)}
+        validator = validator_for(strict, registry=Registry(registry))
+        plain = jsonschema.Draft202012Validator(strict, registry=referencing.Registry().with_contents(registry.items(), default_specification=referencing.jsonschema.DRAFT202012))
+        for innermost in ({}, {"other": 1}):
+            value = innermost
+            for _ in range(60):
+                value = {"next": value}
+            self.assertEqual(validator.is_valid(value), plain.is_valid(value))
+            self.assertEqual(validator.is_valid(value), not innermost)
 
     def test_options(self):
         validator = validator_for({"format": "ipv4"}, format_checker=jsonschema.FormatChecker())

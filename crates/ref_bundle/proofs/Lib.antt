@@ -11,3 +11,4 @@ pub mod Firsts
 pub mod Keys
 pub mod Whole
 pub mod Texts
+pub mod Gotten

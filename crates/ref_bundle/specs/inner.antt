@@ -5,3 +5,4 @@ pub mod Tables
 pub mod First
 pub mod Obstacles
 pub mod Among
+pub mod Members

@@ -1,23 +1,25 @@
 //! The bundle of a document with those that it needs.
 ghost use Rattle.std.specs.Prelude.{◌≡◌, ◌==◌, ◌&&◌, [], ◌∷◌, ◌++◌, OnOk, map, slice_get, Some, filter, not, IfOk, IfErr, Ok};
 ghost use Rattle.std.specs.List.{AllByRecursion};
-ghost use Rattle.ref_bundle.specs.Bundle.{embedded_document, bundle_among, bundle_at, bundle_with, bundle_of};
-ghost use Rattle.ref_bundle.specs.Saying.{embedded_said, bundle_said, further_of, IsRefusalOf};
+ghost use Rattle.ref_bundle.specs.Bundle.{bundle_among, bundle_at, bundle_with};
+ghost use Rattle.ref_bundle.specs.Saying.{bundle_said, further_of, IsRefusalOf};
+ghost use Rattle.ref_bundle.specs.Assembled.{assembled};
 ghost use Rattle.ref_bundle.specs.inner.Reach.{is_marked, IsReach};
-ghost use Rattle.ref_bundle.specs.inner.Seen.{numbered_document, layer_in, part_document, numbered_part, HasPlaces, AreOwn};
+ghost use Rattle.ref_bundle.specs.inner.Seen.{numbered_document, layer_in, numbered_part, HasPlaces, AreOwn};
 ghost use Rattle.ref_bundle.specs.inner.Seen.{HasBase};
 ghost use Rattle.ref_bundle.specs.inner.Tables.{AreTables};
 ghost use Rattle.ref_bundle.specs.Needed.{counted_documents, referred_of};
 
 use crate::among::Among;
-use crate::bundled::{Bundle, Embedded};
-use crate::embedding::{Part, added_schema, part_of, tree_with};
+use crate::bundled::Bundle;
+use crate::embedding::{Part, part_of};
 use crate::error::{BundleError, Problem};
 use crate::own::{Own, Spot, owns_of};
+use crate::parts::BundleParts;
 use crate::reach::{all_referred, reach};
 use crate::refusing::{at_root, first_refusal, is_marked};
 use crate::tables::{Bearers, bearers_of};
-use referencing::{Draft, Registry};
+use referencing::Registry;
 use std::alloc::{AllocError, Global};
 
 // Whether a document is needed, and isn't the root.
@@ -70,50 +72,7 @@ fn parts_of<'r>(
     Ok(parts)
 }
 
-// What is listed of a document.
-fn embedded(draft: Draft, part: &Part<'_>) -> Result<Embedded, AllocError>
-    requires { HasBase part.now }
-    ensures { IfOk result
-        (λ e. embedded_said e ≡ embedded_document draft (numbered_part part.now)) }
-{
-    Ok(Embedded {
-        document: part.number,
-        uri: part.base.clone()?,
-        adds_id: part.tree.get(part.draft.id_keyword()).is_none(),
-        schema: added_schema(draft, part),
-    })
-}
-
-// What is listed of documents.
-fn all_embedded(
-    alloc: Global,
-    draft: Draft,
-    parts: &[Part<'_>],
-) -> Result<Vec<Embedded>, AllocError>
-    requires { AllByRecursion HasBase parts.now }
-    ensures { IfOk result
-        (λ list. map embedded_said list.items
-        ≡ map (embedded_document draft) (map numbered_part parts.now)) }
-{
-    let mut list = Vec::with_capacity(alloc, parts.len())?;
-    for part in parts {
-        list.push(embedded(draft, part)?)?;
-    }
-    Ok(list)
-}
-
-// The bundle of a root with documents.
-fn bundle_of(alloc: Global, top: &Part<'_>, parts: &[Part<'_>]) -> Result<Bundle, AllocError>
-    requires { AllByRecursion HasBase parts.now }
-    ensures { IfOk result
-        (λ b. bundle_said b ≡ bundle_of (part_document top.now) (map numbered_part parts.now)) }
-{
-    let value = tree_with(alloc, top, parts)?;
-    let embedded = all_embedded(alloc, top.draft, parts)?;
-    Ok(Bundle { value, embedded })
-}
-
-// The bundle of a root among documents, which have URIs and are needed so.
+// What the bundle of a root is put together from among documents, which have URIs and are needed so.
 fn bundle_needed<'r>(
     alloc: Global,
     bearers: &Bearers<'r, '_>,
@@ -121,7 +80,7 @@ fn bundle_needed<'r>(
     further: &[Vec<Spot<'r>>],
     needed: &[bool],
     top: &Own<'r>,
-) -> Result<Bundle, BundleError<'r>>
+) -> Result<BundleParts<'r>, BundleError<'r>>
     requires own { AreOwn owns.now }
     requires tables { AreTables (layer_in owns.now) bearers.now }
     requires top { slice_get owns.now top.now.number ≡ Some top.now }
@@ -129,8 +88,8 @@ fn bundle_needed<'r>(
         (map (referred_of (layer_in owns.now) (further_of further.now))
         (counted_documents 0 (layer_in owns.now))) top.now.number needed.now }
     ensures value { IfOk result
-        (λ b. bundle_among (layer_in owns.now) (further_of further.now) bearers.now.registry.now
-        top.now.number ≡ Ok (bundle_said b)) }
+        (λ parts. bundle_among (layer_in owns.now) (further_of further.now) bearers.now.registry.now
+        top.now.number ≡ Ok (assembled parts)) }
     ensures fault { IfErr result
         (IsRefusalOf
         (bundle_among (layer_in owns.now) (further_of further.now) bearers.now.registry.now
@@ -149,23 +108,26 @@ fn bundle_needed<'r>(
     };
     match first_refusal(alloc, &among)? {
         Some(refusal) => Err(BundleError::Refused(refusal)),
-        None => Ok(bundle_of(alloc, &top, embedded)?),
+        None => Ok(BundleParts {
+            root: top,
+            embedded: parts,
+        }),
     }
 }
 
-// The bundle of a root among documents.
+// What the bundle of a root is put together from among documents.
 fn bundle_among<'r>(
     alloc: Global,
     registry: &'r Registry<'_>,
     owns: &[Own<'r>],
     further: &[Vec<Spot<'r>>],
     top: &Own<'r>,
-) -> Result<Bundle, BundleError<'r>>
+) -> Result<BundleParts<'r>, BundleError<'r>>
     requires own { AreOwn owns.now }
     requires top { slice_get owns.now top.now.number ≡ Some top.now }
     ensures value { IfOk result
-        (λ b. bundle_among (layer_in owns.now) (further_of further.now) registry.now top.now.number
-        ≡ Ok (bundle_said b)) }
+        (λ parts. bundle_among (layer_in owns.now) (further_of further.now) registry.now
+        top.now.number ≡ Ok (assembled parts)) }
     ensures fault { IfErr result
         (IsRefusalOf
         (bundle_among (layer_in owns.now) (further_of further.now) registry.now top.now.number)) }
@@ -212,6 +174,23 @@ pub fn bundle_with<'r>(
 ) -> Result<Bundle, BundleError<'r>>
     ensures value { IfOk result
         (λ b. bundle_with registry.now (further_of further.now) root ≡ Ok (bundle_said b)) }
+    ensures fault { IfErr result
+        (IsRefusalOf (bundle_with registry.now (further_of further.now) root)) }
+{
+    let parts = bundle_parts(alloc, registry, further, root)?;
+    Ok(parts.assembled(alloc)?)
+}
+
+/// What the bundle that [`bundle_with`] makes is put together from: [`BundleParts::assembled`] does that. No tree is copied.
+/// Refuses as [`bundle_with`] does, and costs as it does but for the copies.
+pub fn bundle_parts<'r>(
+    alloc: Global,
+    registry: &'r Registry<'_>,
+    further: &[Vec<Spot<'r>>],
+    root: usize,
+) -> Result<BundleParts<'r>, BundleError<'r>>
+    ensures value { IfOk result
+        (λ parts. bundle_with registry.now (further_of further.now) root ≡ Ok (assembled parts)) }
     ensures fault { IfErr result
         (IsRefusalOf (bundle_with registry.now (further_of further.now) root)) }
 {

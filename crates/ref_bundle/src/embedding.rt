@@ -24,13 +24,18 @@ use serde_json::{Map, Value};
 use std::alloc::{AllocError, Global};
 use std::rc::Rc;
 
-/// A document that is under the definitions of a bundle, with its base URI.
+/// A document of a registry, with its base URI.
 #[derive(Drop)]
-pub(crate) struct Part<'r> {
+pub struct Part<'r> {
+    /// Its number in the registry.
     pub number: usize,
+    /// The URI that it was added or retrieved under.
     pub uri: &'r Uri,
+    /// Its tree.
     pub tree: &'r Value,
+    /// Its draft.
     pub draft: Draft,
+    /// Its base URI: its root's identifier against its URI, or that URI.
     pub base: Rc<Uri>,
 }
 

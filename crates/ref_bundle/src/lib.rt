@@ -7,13 +7,16 @@
 #![tactic(auto)]
 
 mod among;
+mod assembling;
 mod bundled;
 mod bundling;
 mod embedding;
 mod error;
 mod first;
 mod fragment;
+mod members;
 mod own;
+mod parts;
 mod reach;
 mod referring;
 mod refusing;
@@ -21,6 +24,9 @@ mod tables;
 mod uris;
 
 pub use bundled::{Bundle, Embedded};
-pub use bundling::{bundle, bundle_with};
+pub use bundling::{bundle, bundle_parts, bundle_with};
+pub use embedding::Part;
 pub use error::{BundleError, Obstacle, Problem, Refusal};
+pub use members::Member;
 pub use own::Spot;
+pub use parts::BundleParts;

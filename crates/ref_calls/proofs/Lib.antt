@@ -3,3 +3,4 @@ pub mod Documents
 pub mod OnLiterals
 pub mod InYaml
 pub mod Texts
+pub mod Scopes

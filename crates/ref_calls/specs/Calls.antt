@@ -7,10 +7,11 @@ use Rattle.ref_uri.specs.Targets.{uri_of}
 use Rattle.ref_draft.specs.declared.draft.Draft.{Draft}
 use Rattle.ref_draft.specs.declared.draft.Draft.TheVariants.{Draft202012}
 use Rattle.ref_draft.specs.Names.{draft_named}
+use Rattle.ref_draft.specs.Schema.{trimmed_text}
 use Rattle.ref_definitions.specs.Results.{◌>>=◌}
 use Rattle.ref_definitions.specs.Fault.{as_invalid_uri}
 use Rattle.ref_calls.specs.declared.call.Call.{Call}
-use Rattle.ref_calls.specs.declared.call.Call.TheVariants.{Hello, Uri, DraftOf, Yaml, Faults, Open, Lookup, Recursive, Enter, Follow, Places, References, Dangling, Vocabularies, Bundle, Close}
+use Rattle.ref_calls.specs.declared.call.Call.TheVariants.{Hello, Uri, DraftOf, Yaml, Faults, Open, Lookup, Recursive, Enter, Follow, Scope, Places, Survey, References, Dangling, Vocabularies, Bundle, Close}
 use Rattle.ref_calls.specs.declared.fault.Wrong.TheVariants.{UnknownField, MissingField, InvalidField}
 use Rattle.ref_calls.specs.Errors.{plain_error, with_field, field_error, as_error, in_field, at_index}
 
@@ -29,20 +30,22 @@ call_named s =
     else (if bytes_eq s (codes "recursive") then Some Recursive
     else (if bytes_eq s (codes "enter") then Some Enter
     else (if bytes_eq s (codes "follow") then Some Follow
+    else (if bytes_eq s (codes "scope") then Some Scope
     else (if bytes_eq s (codes "places") then Some Places
+    else (if bytes_eq s (codes "survey") then Some Survey
     else (if bytes_eq s (codes "references") then Some References
     else (if bytes_eq s (codes "dangling") then Some Dangling
     else (if bytes_eq s (codes "vocabularies") then Some Vocabularies
     else (if bytes_eq s (codes "bundle") then Some Bundle
-    else (if bytes_eq s (codes "close") then Some Close else None)))))))))))))))
+    else (if bytes_eq s (codes "close") then Some Close else None)))))))))))))))))
 
 -- the names of all calls, in this order
 abbrev pub call_names : List (List ℕ)
 call_names =
     codes "hello" ∷ codes "uri" ∷ codes "draft" ∷ codes "yaml" ∷ codes "faults" ∷ codes "open"
-    ∷ codes "lookup" ∷ codes "recursive" ∷ codes "enter" ∷ codes "follow" ∷ codes "places"
-    ∷ codes "references" ∷ codes "dangling" ∷ codes "vocabularies" ∷ codes "bundle" ∷ codes "close"
-    ∷ []
+    ∷ codes "lookup" ∷ codes "recursive" ∷ codes "enter" ∷ codes "follow" ∷ codes "scope"
+    ∷ codes "places" ∷ codes "survey" ∷ codes "references" ∷ codes "dangling"
+    ∷ codes "vocabularies" ∷ codes "bundle" ∷ codes "close" ∷ []
 
 -- the members that a call knows besides `call` and `id`
 abbrev pub fields_of : Call → List (List ℕ)
@@ -61,7 +64,9 @@ fields_of Enter =
 fields_of Follow =
     codes "registry" ∷ codes "base" ∷ codes "scope" ∷ codes "values" ∷ codes "draft" ∷ codes "steps"
     ∷ []
+fields_of Scope = codes "registry" ∷ codes "scope" ∷ []
 fields_of Places = codes "registry" ∷ []
+fields_of Survey = codes "registry" ∷ []
 fields_of References = codes "registry" ∷ codes "document" ∷ []
 fields_of Dangling = codes "registry" ∷ []
 fields_of Vocabularies = codes "registry" ∷ codes "schema" ∷ codes "draft" ∷ []
@@ -162,18 +167,6 @@ schema_of d = required_member (codes "schema") d >>= schema_in
 unfoldable pub base_of : Data → Result (List ℕ) Data
 base_of d = required_member (codes "base") d >>= uri_at (codes "base")
 
--- the URI that an item of a scope means
-abbrev pub scope_uri : ℕ → Data → Result (List ℕ) Data
-scope_uri n d = at_index n (uri_at (codes "scope") d)
-
--- the dynamic scope under `scope`, the innermost first, or else the empty one
-abbrev pub scope_at : Option Data → Result (List (List ℕ)) Data
-scope_at None = Ok []
-scope_at (Some d) = items_in (codes "scope") d >>= each_item scope_uri 0
-
-unfoldable pub scope_of : Data → Result (List (List ℕ)) Data
-scope_of d = scope_at (get (codes "scope") d)
-
 -- ---- documents
 
 -- `[text, schema]`: the text of a URI, a schema, and no third item
@@ -184,11 +177,11 @@ pair_of other = None
 abbrev pub document_of : Data → Option (List ℕ × Data)
 document_of d = option_and_then pair_of (as_array d)
 
--- one whose text means a URI
+-- one whose text means a URI, without `#` characters at its end
 abbrev pub sound_document : List ℕ → Data → Result (List ℕ × Data) Data
 sound_document field d = do
   document ← ok_or (document_of d) (field_error InvalidField field)
-  uri ← uri_in field document.0
+  uri ← uri_in field (trimmed_text document.0)
   Ok document
 
 abbrev pub document_in : List ℕ → ℕ → Data → Result (List ℕ × Data) Data
@@ -209,10 +202,10 @@ needed_documents found =
     documents_at (codes "documents") found
     >>= λ documents. ok_or documents (field_error MissingField (codes "documents"))
 
--- documents under the URIs that their texts mean
+-- documents under the URIs that their texts mean, without `#` characters at their end
 abbrev pub under_uris : List ℕ → List (List ℕ × Data) → Result (List (List ℕ × Data)) Data
 under_uris field [] = Ok []
 under_uris field (e ∷ es) = do
-  uri ← uri_in field e.0
+  uri ← uri_in field (trimmed_text e.0)
   more ← under_uris field es
   Ok ((uri, e.1) ∷ more)

@@ -7,7 +7,7 @@ use Rattle.ref_error.specs.declared.error.Error.{Error}
 use Rattle.ref_error.specs.declared.error.Error.TheVariants as error
 use Rattle.ref_error.specs.Errors.{SaysFault}
 use Rattle.ref_calls.specs.declared.fault.Wrong.{Wrong}
-use Rattle.ref_calls.specs.declared.fault.Wrong.TheVariants.{UnknownField, MissingField, InvalidField, UnknownRegistry}
+use Rattle.ref_calls.specs.declared.fault.Wrong.TheVariants.{UnknownField, MissingField, InvalidField, UnknownRegistry, UnknownScope}
 use Rattle.ref_json.specs.declared.stop.Stop.{Stop}
 use Rattle.ref_json.specs.declared.stop.Stop.TheVariants.{Memory}
 use Rattle.ref_calls.specs.Outcome.{IsStop}
@@ -71,12 +71,14 @@ wrong_name UnknownField = codes "UnknownField"
 wrong_name MissingField = codes "MissingField"
 wrong_name InvalidField = codes "InvalidField"
 wrong_name UnknownRegistry = codes "UnknownRegistry"
+wrong_name UnknownScope = codes "UnknownScope"
 
 abbrev pub wrong_text : Wrong → List ℕ
 wrong_text UnknownField = codes "Unknown member"
 wrong_text MissingField = codes "Missing member"
 wrong_text InvalidField = codes "Wrong type or form of the member"
 wrong_text UnknownRegistry = codes "No open registry has the number under"
+wrong_text UnknownScope = codes "No kept scope of the registry has the number under"
 
 -- the members of its error
 abbrev pub field_members : Wrong → List ℕ → List (List ℕ × Data)

@@ -2,6 +2,7 @@ pub mod Outcome
 pub mod Objects
 pub mod Errors
 pub mod Calls
+pub mod Scopes
 pub mod Given
 pub mod Rows
 pub mod Yaml

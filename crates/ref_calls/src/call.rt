@@ -22,7 +22,9 @@ pub enum Call {
     Recursive,
     Enter,
     Follow,
+    Scope,
     Places,
+    Survey,
     References,
     Dangling,
     Vocabularies,
@@ -44,7 +46,9 @@ fn call_named(name: &str) -> Option<Call>
         "recursive" => Some(Call::Recursive),
         "enter" => Some(Call::Enter),
         "follow" => Some(Call::Follow),
+        "scope" => Some(Call::Scope),
         "places" => Some(Call::Places),
+        "survey" => Some(Call::Survey),
         "references" => Some(Call::References),
         "dangling" => Some(Call::Dangling),
         "vocabularies" => Some(Call::Vocabularies),
@@ -55,7 +59,7 @@ fn call_named(name: &str) -> Option<Call>
 }
 
 // The names of all calls.
-const NAMES: [&str; 16] = [
+const NAMES: [&str; 18] = [
     "hello",
     "uri",
     "draft",
@@ -66,7 +70,9 @@ const NAMES: [&str; 16] = [
     "recursive",
     "enter",
     "follow",
+    "scope",
     "places",
+    "survey",
     "references",
     "dangling",
     "vocabularies",
@@ -96,9 +102,10 @@ fn fields_of(call: Call) -> &'static [&'static str]
         Call::Recursive => &["registry", "base", "scope", "values"],
         Call::Enter => &["registry", "base", "scope", "schema", "draft"],
         Call::Follow => &["registry", "base", "scope", "values", "draft", "steps"],
+        Call::Scope => &["registry", "scope"],
         Call::Vocabularies => &["registry", "schema", "draft"],
         Call::Bundle | Call::References => &["registry", "document"],
-        Call::Places | Call::Dangling | Call::Close => &["registry"],
+        Call::Places | Call::Survey | Call::Dangling | Call::Close => &["registry"],
     }
 }
 

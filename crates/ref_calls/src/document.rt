@@ -10,6 +10,7 @@ ghost use Rattle.ref_calls.specs.Given.{given_of};
 use crate::fault::{Wrong, at_index, field_error};
 use crate::field::uri_in;
 use crate::members::Members;
+use ref_draft::trim_hashes;
 use ref_json::Stop;
 use ref_uri::Uri;
 use serde_json::{Map, Value};
@@ -35,14 +36,14 @@ fn document_of(item: Value) -> Option<Document>
     }
 }
 
-// The pair that an item is, whose text means a URI.
+// The pair that an item is, whose text means a URI, without `#` characters at its end.
 fn sound_document(alloc: Global, item: Value, field: &str) -> Result<Document, Stop<Value>>
     ensures { Answers given_of result (spec.sound_document field.now (view item)) }
 {
     let Some(document) = document_of(item) else {
         return Err(field_error(alloc, Wrong::InvalidField, field));
     };
-    let _uri = uri_in(alloc, document.0.as_str(), field)?;
+    let _uri = uri_in(alloc, trim_hashes(document.0.as_str()), field)?;
     Ok(document)
 }
 
@@ -125,7 +126,7 @@ pub fn needed_documents(alloc: Global, members: &mut Members) -> Result<Vec<Docu
     }
 }
 
-/// Documents under the URIs that their texts mean.
+/// Documents under the URIs that their texts mean, without `#` characters at their end.
 pub fn under_uris(
     alloc: Global,
     documents: Vec<Document>,
@@ -136,7 +137,7 @@ pub fn under_uris(
 {
     let mut pairs = Vec::with_capacity(alloc, documents.len())?;
     for (text, tree) in documents {
-        let uri = uri_in(alloc, text.as_str(), field)?;
+        let uri = uri_in(alloc, trim_hashes(text.as_str()), field)?;
         pairs.push((uri, tree))?;
     }
     Ok(pairs)

@@ -7,9 +7,10 @@ ghost use Rattle.serde_json.specs.Find.{get};
 ghost use Rattle.ref_draft.specs.declared.draft.Draft.TheVariants.{Draft4, Draft7, Draft202012};
 ghost use Rattle.ref_definitions.specs.Fault.{PointerToNowhere, InvalidPercentEncoding, InvalidArrayIndex, NoSuchAnchor, InvalidAnchor, UnknownSpecification, RetrievalLimit};
 ghost use Rattle.ref_definitions.specs.Rows.{yes, text, whole_number, empty, one, two, list, pair};
-ghost use Rattle.ref_calls.specs.declared.call.Call.TheVariants.{Hello, Uri, DraftOf, Yaml, Faults, Open, Lookup, Recursive, Enter, Follow, Places, References, Dangling, Vocabularies, Bundle, Close};
-ghost use Rattle.ref_calls.specs.declared.fault.Wrong.TheVariants.{UnknownField, MissingField, InvalidField, UnknownRegistry};
-ghost use Rattle.ref_calls.specs.Calls.{call_of, call_named, call_names, is_known, required_member, text_in, number_in, is_set, draft_of, schema_of, base_of, scope_of, document_of, documents_of, documents_at, needed_documents, under_uris};
+ghost use Rattle.ref_calls.specs.declared.call.Call.TheVariants.{Hello, Uri, DraftOf, Yaml, Faults, Open, Lookup, Recursive, Enter, Follow, Scope, Places, Survey, References, Dangling, Vocabularies, Bundle, Close};
+ghost use Rattle.ref_calls.specs.declared.fault.Wrong.TheVariants.{UnknownField, MissingField, InvalidField, UnknownRegistry, UnknownScope};
+ghost use Rattle.ref_calls.specs.Calls.{call_of, call_named, call_names, is_known, required_member, text_in, number_in, is_set, draft_of, schema_of, base_of, document_of, documents_of, documents_at, needed_documents, under_uris};
+ghost use Rattle.ref_calls.specs.Scopes.{own_scope, scope_in, scope_of, scope_answered};
 ghost use Rattle.ref_calls.specs.Yaml.{yaml_document, with_value, IsItemRead, value_object};
 ghost use Rattle.ref_calls.specs.Errors.{not_json, not_yaml, field_error, with_field, with_index, fault_error, fault_name, wanted_document};
 ghost use Rattle.ref_calls.specs.Objects.{answer_of, object_of, texts, whole};
@@ -42,8 +43,8 @@ pub fn calls()
     ensures no_name { call_named (codes "refer") ≡ None }
     ensures each_is_named { map call_named call_names
         ≡ Some Hello ∷ Some Uri ∷ Some DraftOf ∷ Some Yaml ∷ Some Faults ∷ Some Open
-        ∷ Some Lookup ∷ Some Recursive ∷ Some Enter ∷ Some Follow ∷ Some Places
-        ∷ Some References ∷ Some Dangling ∷ Some Vocabularies ∷ Some Bundle ∷ Some Close ∷ [] }
+        ∷ Some Lookup ∷ Some Recursive ∷ Some Enter ∷ Some Follow ∷ Some Scope ∷ Some Places
+        ∷ Some Survey ∷ Some References ∷ Some Dangling ∷ Some Vocabularies ∷ Some Bundle ∷ Some Close ∷ [] }
     ensures without_members { call_of (call "hello") ≡ Ok Hello }
     ensures of_a_text { call_of (call_with "yaml" "text" (text "a")) ≡ Ok Yaml }
     ensures no_registry_is_asked { told "field" (call_of (call_with "uri" "registry" (whole_number 0)))
@@ -81,14 +82,39 @@ pub fn members()
     ensures no_base { told "name" (base_of (one "base" (text "a b"))) ≡ Some (text "InvalidUri") }
     ensures field_of_no_base { told "field" (base_of (one "base" (text "a b")))
         ≡ Some (text "base") }
-    ensures no_scope { scope_of empty ≡ Ok [] }
-    ensures scope { scope_of (one "scope" (pair (text "http://a/b") (text "c")))
-        ≡ Ok (codes "http://a/b" ∷ codes "json-schema:///c" ∷ []) }
-    ensures index_in_scope { told "index" (scope_of (one "scope" (pair (text "a") (text "b c"))))
+{}
+
+/// The dynamic scopes of calls and answers.
+pub fn scopes()
+    ensures none { scope_of [] empty ≡ Ok (own_scope []) }
+    ensures uris { scope_of [] (one "scope" (pair (text "http://a/b") (text "c")))
+        ≡ Ok (own_scope (codes "http://a/b" ∷ codes "json-schema:///c" ∷ [])) }
+    ensures index { told "index" (scope_in [] (pair (text "a") (text "b c")))
         ≡ Some (whole_number 1) }
-    ensures field_of_scope { told "field" (scope_of (one "scope" (pair (text "a") (text "b c"))))
+    ensures field { told "field" (scope_in [] (pair (text "a") (text "b c")))
         ≡ Some (text "scope") }
-    ensures no_list { told "name" (scope_of (one "scope" (text "a"))) ≡ Some (text "InvalidField") }
+    ensures no_list { told "name" (scope_in [] (text "a")) ≡ Some (text "InvalidField") }
+    ensures kept { scope_in ([] ∷ (codes "u:a" ∷ []) ∷ []) (whole_number 1)
+        ≡ Ok (record { uris = codes "u:a" ∷ []; kept = Some (1, codes "u:a" ∷ []) }) }
+    ensures in_front { scope_in ((codes "u:a" ∷ []) ∷ []) (pair (text "u:b") (whole_number 0))
+        ≡ Ok (record {
+          uris = codes "u:b" ∷ codes "u:a" ∷ [];
+          kept = Some (0, codes "u:a" ∷ []);
+        }) }
+    ensures not_kept { told "name" (scope_in ([] ∷ []) (whole_number 1))
+        ≡ Some (text "UnknownScope") }
+    ensures index_of_not_kept { told "index" (scope_in [] (pair (text "u:b") (whole_number 0)))
+        ≡ Some (whole_number 1) }
+    ensures number_in_front { told "name"
+        (scope_in ([] ∷ []) (pair (whole_number 0) (text "u:b")))
+        ≡ Some (text "InvalidField") }
+    ensures answered { scope_answered None (codes "u:b" ∷ codes "u:a" ∷ [])
+        ≡ pair (text "u:b") (text "u:a") }
+    ensures answered_in_front { scope_answered (Some (7, codes "u:a" ∷ []))
+        (codes "u:b" ∷ codes "u:a" ∷ [])
+        ≡ pair (text "u:b") (whole_number 7) }
+    ensures answered_alone { scope_answered (Some (7, codes "u:a" ∷ [])) (codes "u:a" ∷ [])
+        ≡ list (whole_number 7) }
 {}
 
 /// The documents that calls give.
@@ -98,6 +124,11 @@ pub fn documents()
     ensures no_text { document_of (pair yes empty) ≡ None }
     ensures one_document { documents_of (codes "documents") (list (pair (text "a") yes))
         ≡ Ok ((codes "a", yes) ∷ []) }
+    ensures hashes { documents_of (codes "documents") (list (pair (text "a##") yes))
+        ≡ Ok ((codes "a##", yes) ∷ []) }
+    ensures hash_within { told "name"
+        (documents_of (codes "documents") (list (pair (text "a##b") yes)))
+        ≡ Some (text "InvalidUri") }
     ensures no_list { told "field" (documents_of (codes "remote") empty)
         ≡ Some (text "remote") }
     ensures no_document { told "index"
@@ -115,6 +146,8 @@ pub fn documents()
     ensures needed { told "name" (needed_documents None) ≡ Some (text "MissingField") }
     ensures field_of_needed { told "field" (needed_documents None) ≡ Some (text "documents") }
     ensures under_their_uris { under_uris (codes "remote") ((codes "a", yes) ∷ [])
+        ≡ Ok ((codes "json-schema:///a", yes) ∷ []) }
+    ensures under_their_uris_without_hashes { under_uris (codes "remote") ((codes "a##", yes) ∷ [])
         ≡ Ok ((codes "json-schema:///a", yes) ∷ []) }
 {}
 
@@ -166,6 +199,8 @@ pub fn errors()
         ≡ Some (text "InvalidField") }
     ensures no_registry { get (codes "name") (field_error UnknownRegistry (codes "parent"))
         ≡ Some (text "UnknownRegistry") }
+    ensures no_scope { get (codes "name") (field_error UnknownScope (codes "scope"))
+        ≡ Some (text "UnknownScope") }
     ensures field { get (codes "field") (field_error UnknownRegistry (codes "parent"))
         ≡ Some (text "parent") }
     ensures with_a_field { with_field (codes "base") empty ≡ one "field" (text "base") }

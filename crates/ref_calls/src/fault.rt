@@ -27,6 +27,8 @@ pub enum Wrong {
     InvalidField,
     /// No open registry has its number.
     UnknownRegistry,
+    /// No scope that is kept for the registry has its number.
+    UnknownScope,
 }
 
 impl Wrong {
@@ -38,6 +40,7 @@ impl Wrong {
             Wrong::MissingField => "MissingField",
             Wrong::InvalidField => "InvalidField",
             Wrong::UnknownRegistry => "UnknownRegistry",
+            Wrong::UnknownScope => "UnknownScope",
         }
     }
 
@@ -49,6 +52,7 @@ impl Wrong {
             Wrong::MissingField => "Missing member",
             Wrong::InvalidField => "Wrong type or form of the member",
             Wrong::UnknownRegistry => "No open registry has the number under",
+            Wrong::UnknownScope => "No kept scope of the registry has the number under",
         }
     }
 }

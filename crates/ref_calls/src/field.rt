@@ -1,5 +1,5 @@
 //! The members of calls.
-ghost use Rattle.std.specs.Prelude.{◌≡◌, Some, IfOk};
+ghost use Rattle.std.specs.Prelude.{◌≡◌};
 ghost use Rattle.serde_json.specs.View.{view, items_view};
 ghost use Rattle.ref_uri.specs.Targets.{uri_of};
 ghost use Rattle.ref_definitions.specs.Fault.{as_invalid_uri};
@@ -7,16 +7,14 @@ ghost use Rattle.ref_calls.specs.Errors.{as_error};
 ghost use Rattle.ref_calls.specs.Calls as spec;
 ghost use Rattle.ref_calls.specs.Outcome.{Answers};
 
-use crate::fault::{Wrong, at_index, fault_error, field_error, in_field};
+use crate::fault::{Wrong, fault_error, field_error, in_field};
 use ref_draft::Draft;
 use ref_error::Error;
 use ref_json::Stop;
-use ref_parts::list::List;
 use ref_uri::Uri;
 use ref_uri::uri::from_str;
 use serde_json::Value;
-use std::alloc::{AllocError, Global};
-use std::rc::Rc;
+use std::alloc::Global;
 
 /// A member that is needed.
 pub fn required<'t>(alloc: Global, tree: &'t Value, field: &str) -> Result<&'t Value, Stop<Value>>
@@ -138,59 +136,4 @@ pub fn base_of(alloc: Global, tree: &Value) -> Result<Uri, Stop<Value>>
 {
     let value = required(alloc, tree, "base")?;
     uri_at(alloc, value, "base")
-}
-
-// The URI that an item of a scope means.
-fn scope_uri(alloc: Global, item: &Value, index: usize) -> Result<Uri, Stop<Value>>
-    ensures { Answers (λ u. u) result (spec.scope_uri index (view item.now)) }
-{
-    match uri_at(alloc, item, "scope") {
-        Ok(uri) => Ok(uri),
-        Err(stop) => Err(at_index(alloc, stop, index)),
-    }
-}
-
-// The URIs that the items of a scope mean.
-fn uris_in(alloc: Global, items: &[Value]) -> Result<Vec<Uri>, Stop<Value>>
-    ensures { Answers (λ v. v.items) result
-        (spec.each_item spec.scope_uri 0 (items_view items.now)) }
-{
-    let mut uris = Vec::with_capacity(alloc, items.len())?;
-    for (index, item) in items.iter().enumerate() {
-        let uri = scope_uri(alloc, item, index)?;
-        uris.push(uri)?;
-    }
-    Ok(uris)
-}
-
-// The list of the same URIs, in the same order.
-fn list_of(alloc: Global, uris: Vec<Uri>) -> Result<List<Uri>, AllocError>
-    ensures { IfOk result (λ list. list ≡ uris.items) }
-{
-    let mut uris = uris;
-    let mut list = List::new();
-    while let Some(uri) = uris.pop() {
-        list = list.push_front(alloc, Rc::new(alloc, uri)?)?;
-    }
-    Ok(list)
-}
-
-/// The dynamic scope that a value is.
-pub fn scope_in(alloc: Global, value: &Value) -> Result<List<Uri>, Stop<Value>>
-    ensures { Answers (λ list. list) result (spec.scope_at (Some (view value.now))) }
-{
-    let items = items_in(alloc, value, "scope")?;
-    let uris = uris_in(alloc, items)?;
-    Ok(list_of(alloc, uris)?)
-}
-
-/// The dynamic scope under `scope`, or else the empty one.
-#[tactic(auto, unfolding(crate::specs::Calls::scope_of))]
-pub fn scope_of(alloc: Global, tree: &Value) -> Result<List<Uri>, Stop<Value>>
-    ensures { Answers (λ list. list) result (spec.scope_of (view tree.now)) }
-{
-    match tree.get("scope") {
-        Some(value) => scope_in(alloc, value),
-        None => Ok(List::new()),
-    }
 }

@@ -11,10 +11,12 @@ pub mod examples;
 pub mod fault;
 pub mod field;
 pub mod members;
+pub mod scope;
 pub mod why;
 pub mod yaml;
 
 pub use call::{Call, call_names, call_of};
 pub use fault::Wrong;
 pub use members::Members;
+pub use scope::{GivenScope, Kept};
 pub use why::NotJson;

@@ -2,8 +2,9 @@
 use crate::made::is_text_of;
 use crate::message::message_at;
 use crate::opened::{Opened, open_file, reported};
+use crate::pieces::{Pieces, definitions};
 use clap::ArgMatches;
-use ref_bundle::{Bundle, Embedded, Spot, bundle_with};
+use ref_bundle::{BundleParts, Embedded, Spot, bundle_parts};
 use ref_command_line::{Configured, Console, Stop, say, say_failures, say_of};
 use ref_descriptions::version_of;
 use ref_draft::Draft;
@@ -96,8 +97,8 @@ fn bundle_above<'s, 'd, 'r>(
         world: &world,
         further: further.as_slice(),
     };
-    match bundle_with(rt.alloc(), &world.registry, further.as_slice(), 0) {
-        Ok(bundle) => sources.write(console, &bundle),
+    match bundle_parts(rt.alloc(), &world.registry, further.as_slice(), 0) {
+        Ok(parts) => sources.write(console, &parts),
         Err(error) => {
             let status = sources.refuse(&error);
             drop(error);
@@ -136,15 +137,29 @@ impl<'s, 'a, 'd, 'r, 'm, 'w, 'o> Sources<'s, 'a, 'd, 'r, 'm, 'w, 'o> {
         self.world.sources.get(document).copied()
     }
 
-    fn write(&self, console: &mut Console<'_>, bundle: &Bundle) -> Result<u8, Stop> {
-        if self.has_problems(bundle)? {
+    fn write(&self, console: &mut Console<'_>, parts: &BundleParts<'_>) -> Result<u8, Stop> {
+        let embedded = parts.listed(self.rt.alloc())?;
+        if self.has_problems(embedded.as_slice())? {
             say(self.rt, "not bundled");
             return Ok(1);
         }
-        let Some(text) = self.text(bundle)? else {
+        let pieces = Pieces {
+            parts,
+            embedded: embedded.as_slice(),
+            schema: self.missing_schema(parts),
+        };
+        self.write_pieces(console, &pieces)
+    }
+
+    fn write_pieces(
+        &self,
+        console: &mut Console<'_>,
+        pieces: &Pieces<'_, '_, '_>,
+    ) -> Result<u8, Stop> {
+        let Some(text) = self.text(pieces)? else {
             return Ok(3);
         };
-        self.say_uri(bundle);
+        self.say_uri(pieces.parts);
         self.say_format();
         match self.given.get_str("output") {
             Some(path) if !is_output(path) => {
@@ -158,10 +173,10 @@ impl<'s, 'a, 'd, 'r, 'm, 'w, 'o> Sources<'s, 'a, 'd, 'r, 'm, 'w, 'o> {
     }
 
     // Whether a document that is needed has faults, or something that is needed isn't there.
-    fn has_problems(&self, bundle: &Bundle) -> Result<bool, Stop> {
-        let needed = self.needed(bundle)?;
+    fn has_problems(&self, embedded: &[Embedded]) -> Result<bool, Stop> {
+        let needed = self.needed(embedded)?;
         let needed = needed.as_slice();
-        Ok(self.has_faults(needed)? || self.is_incomplete(bundle, needed)?)
+        Ok(self.has_faults(needed)? || self.is_incomplete(embedded, needed)?)
     }
 
     // Prints what is wrong with the documents that are needed, and returns whether that keeps them from being bundled:
@@ -205,8 +220,8 @@ impl<'s, 'a, 'd, 'r, 'm, 'w, 'o> Sources<'s, 'a, 'd, 'r, 'm, 'w, 'o> {
 
     // Whether a needed document isn't there, or a needed place refers to none, or to the root by a URI that its
     // identifier replaces.
-    fn is_incomplete(&self, bundle: &Bundle, needed: &[bool]) -> Result<bool, Stop> {
-        let mut is_incomplete = self.say_missing(bundle);
+    fn is_incomplete(&self, embedded: &[Embedded], needed: &[bool]) -> Result<bool, Stop> {
+        let mut is_incomplete = self.say_missing(embedded);
         let places = self.places()?;
         let replaced = self.replaced(places.as_slice());
         for place in &places {
@@ -232,9 +247,9 @@ impl<'s, 'a, 'd, 'r, 'm, 'w, 'o> Sources<'s, 'a, 'd, 'r, 'm, 'w, 'o> {
     }
 
     // Says which needed documents aren't there, and returns whether there are some.
-    fn say_missing(&self, bundle: &Bundle) -> bool {
+    fn say_missing(&self, embedded: &[Embedded]) -> bool {
         let mut is_missing = false;
-        for embedded in &bundle.embedded {
+        for embedded in embedded {
             if self.source(embedded.document).is_none() {
                 let uri = embedded.uri.as_str();
                 let _ = eprintln!(self.rt;
@@ -318,14 +333,14 @@ impl<'s, 'a, 'd, 'r, 'm, 'w, 'o> Sources<'s, 'a, 'd, 'r, 'm, 'w, 'o> {
     }
 
     // Says under which URI a bundle is to be read that has no absolute identifier.
-    fn say_uri(&self, bundle: &Bundle) {
+    fn say_uri(&self, parts: &BundleParts<'_>) {
         let Some(root) = self.opened.workspace.documents().first() else {
             return;
         };
         let draft = self.draft(0);
         let keyword = draft.id_keyword();
-        let id = ResourceRef::new(&bundle.value, draft).id().unwrap_or("");
-        if !bundle.embedded.is_empty() && !is_absolute(id) {
+        let id = ResourceRef::new(parts.root.tree, draft).id().unwrap_or("");
+        if !parts.embedded.is_empty() && !is_absolute(id) {
             let _ = eprintln!(self.rt;
                 "patchsard: note: the bundle has no absolute {keyword}; its references keep their meaning where it is read under {}",
                 root.uri.as_str()
@@ -344,61 +359,45 @@ impl<'s, 'a, 'd, 'r, 'm, 'w, 'o> Sources<'s, 'a, 'd, 'r, 'm, 'w, 'o> {
     }
 
     // Which of what was read is needed.
-    fn needed(&self, bundle: &Bundle) -> Result<Vec<bool>, AllocError> {
+    fn needed(&self, embedded: &[Embedded]) -> Result<Vec<bool>, AllocError> {
         let mut needed = vec![in self.rt.alloc(); false; self.opened.workspace.len()]?;
         set(&mut needed, self.source(0));
-        for embedded in &bundle.embedded {
+        for embedded in embedded {
             set(&mut needed, self.source(embedded.document));
         }
         Ok(needed)
     }
 
     // The text of a bundle, or nothing where what was made has another value.
-    fn text(&self, bundle: &Bundle) -> Result<Option<String>, Stop> {
-        let Some(schema) = self.missing_schema(bundle) else {
-            return self.text_with(bundle, &bundle.value, None);
-        };
-        let value = with_schema(self.rt.alloc(), &bundle.value, schema)?;
-        let text = self.text_with(bundle, &value, Some(schema));
-        drop(value);
-        text
-    }
-
-    // The `$schema` that the root gets, so that a reader takes it for what it is: where it has none and isn't of the draft
-    // that a reader takes it for.
-    fn missing_schema(&self, bundle: &Bundle) -> Option<&'static str> {
-        if bundle.value.as_object()?.contains_key("$schema") {
-            return None;
-        }
-        schema_of(self.draft(0))
-    }
-
-    // The text of a bundle whose root gets a `$schema`, and then has a value.
-    fn text_with(
-        &self,
-        bundle: &Bundle,
-        value: &Value,
-        schema: Option<&str>,
-    ) -> Result<Option<String>, Stop> {
+    fn text(&self, pieces: &Pieces<'_, '_, '_>) -> Result<Option<String>, Stop> {
         let text = if self.given.get_flag("minify") {
-            Some(minified(self.rt.alloc(), value)?)
+            Some(pieces.minified(self.rt.alloc())?)
         } else {
-            self.spliced(bundle, schema)?
+            self.spliced(pieces)?
         };
         let Some(text) = text else {
             let why = "the text of a document can't be read again; nothing is written";
             say(self.rt, why);
             return Ok(None);
         };
-        if self.is_text_of(text.as_str(), value)? {
+        if self.is_text_of(text.as_str(), pieces)? {
             return Ok(Some(text));
         }
         Ok(None)
     }
 
-    // Whether a text is that of a value. Where it isn't standard error says so.
-    fn is_text_of(&self, text: &str, value: &Value) -> Result<bool, AllocError> {
-        match is_text_of(self.rt.alloc(), text, value)? {
+    // The `$schema` that the root gets, so that a reader takes it for what it is: where it has none and isn't of the draft
+    // that a reader takes it for.
+    fn missing_schema(&self, parts: &BundleParts<'_>) -> Option<&'static str> {
+        if parts.root.tree.as_object()?.contains_key("$schema") {
+            return None;
+        }
+        schema_of(self.draft(0))
+    }
+
+    // Whether a text is that of a bundle. Where it isn't standard error says so.
+    fn is_text_of(&self, text: &str, pieces: &Pieces<'_, '_, '_>) -> Result<bool, AllocError> {
+        match is_text_of(self.rt.alloc(), text, pieces)? {
             Ok(is_same) => {
                 if !is_same {
                     let why = "the text that was made isn't that of the bundle; nothing is written";
@@ -417,27 +416,27 @@ impl<'s, 'a, 'd, 'r, 'm, 'w, 'o> Sources<'s, 'a, 'd, 'r, 'm, 'w, 'o> {
     }
 
     // The text of the root, with a `$schema` where it gets one, with those of the documents that are embedded.
-    fn spliced(&self, bundle: &Bundle, schema: Option<&str>) -> Result<Option<String>, Stop> {
+    fn spliced(&self, pieces: &Pieces<'_, '_, '_>) -> Result<Option<String>, Stop> {
         let Some(root) = self.json_in(0)? else {
             return Ok(None);
         };
-        match schema {
+        match pieces.schema {
             Some(schema) => match root_with(self.rt.alloc(), root.as_str(), schema)? {
-                Some(root) => self.with_embedded(bundle, root.as_str()),
+                Some(root) => self.with_embedded(pieces.embedded, root.as_str()),
                 None => Ok(None),
             },
-            None => self.with_embedded(bundle, root.as_str()),
+            None => self.with_embedded(pieces.embedded, root.as_str()),
         }
     }
 
     // The root's text with those of the documents that are embedded.
-    fn with_embedded(&self, bundle: &Bundle, root: &str) -> Result<Option<String>, Stop> {
+    fn with_embedded(&self, embedded: &[Embedded], root: &str) -> Result<Option<String>, Stop> {
         let alloc = self.rt.alloc();
-        if bundle.embedded.is_empty() {
+        if embedded.is_empty() {
             return Ok(Some(String::from_str(alloc, root)?));
         }
         let mut parts = Vec::new(alloc);
-        for embedded in &bundle.embedded {
+        for embedded in embedded {
             match self.part(embedded)? {
                 Some(part) => push(&mut parts, part)?,
                 None => return Ok(None),
@@ -587,17 +586,6 @@ fn say_unwritten(rt: &HostRuntime, path: &str, error: io::Error) {
     }
 }
 
-// The value of a root with a `$schema` in it.
-fn with_schema(alloc: Global, value: &Value, schema: &str) -> Result<Value, AllocError> {
-    let mut made = value.clone()?;
-    if let Some(members) = made.as_object_mut() {
-        let key = String::from_str(alloc, "$schema")?;
-        let schema = String::from_str(alloc, schema)?;
-        members.insert(key, Value::String(schema))?;
-    }
-    Ok(made)
-}
-
 // The text of a root with a `$schema` at its beginning. What is around its braces stays.
 fn root_with(alloc: Global, text: &str, schema: &str) -> Result<Option<String>, AllocError> {
     let body = text.trim();
@@ -628,13 +616,6 @@ fn schema_of(draft: Draft) -> Option<&'static str> {
 // Whether a path means standard output.
 fn is_output(path: &str) -> bool {
     matches!(path, "-" | "/dev/stdout" | "/dev/fd/1" | "/proc/self/fd/1")
-}
-
-// A value on a line.
-fn minified(alloc: Global, value: &Value) -> Result<String, AllocError> {
-    let mut line = value.to_string(alloc)?;
-    line.push('\n')?;
-    Ok(line)
 }
 
 // Whether a text is a URI with a scheme.
@@ -696,12 +677,4 @@ fn set(flags: &mut Vec<bool>, number: Option<usize>) {
 fn push(parts: &mut Vec<Part>, part: Part) -> Result<(), AllocError> {
     parts.push(part)?;
     Ok(())
-}
-
-// The keyword of definitions (Draft 7 Validation, 9; 2019-09 Core, 8.2.5).
-fn definitions(draft: Draft) -> &'static str {
-    match draft {
-        Draft::Draft4 | Draft::Draft6 | Draft::Draft7 => "definitions",
-        _ => "$defs",
-    }
 }

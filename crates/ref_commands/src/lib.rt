@@ -16,6 +16,7 @@ mod made;
 mod members;
 mod message;
 mod opened;
+mod pieces;
 pub mod places;
 mod printed;
 mod refusals;

@@ -5,7 +5,7 @@ use ref_draft::Draft;
 use ref_index::Place;
 use ref_messages::{Plain, push_member, push_quoted};
 use ref_parts::pointer_of;
-use ref_positions::{Places, Position};
+use ref_positions::{Places, line_and_column};
 use ref_workspace::pointer::place_of;
 use ref_workspace::{DescribedPlace, Description, Document};
 use serde_json::Value;
@@ -106,14 +106,6 @@ impl Listing {
             }
         }
         Ok(())
-    }
-}
-
-// Where a place is, or the beginning of the file.
-fn line_and_column(position: Option<Position<'_>>) -> (usize, usize) {
-    match position {
-        Some(position) => (position.line(), position.column()),
-        None => (1, 1),
     }
 }
 

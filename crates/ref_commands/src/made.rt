@@ -1,26 +1,35 @@
-//! Whether a text is that of a value: told part by part, so that no second tree of the whole is made.
+//! Whether a text is that of a bundle: told piece by piece, so that no second tree of the whole is made.
+use crate::pieces::{Piece, Pieces};
 use json::{Reader, Scratch, Token};
 use ref_files::{Fault, parsed};
-use serde_json::{Map, Value};
+use serde_json::Value;
 use std::alloc::{AllocError, Global};
 use std::collections::BTreeMap;
 
 // How deep a text may be that is read in parts. A part is less deep than the whole, and may be read where the whole may not.
 const DEEPEST: usize = 100;
 
-/// Whether a text is that of a value, or why it is no JSON. Of members with one key the last one counts. The members of an object are read one by one, and
-/// those of objects among them, each as a tree of its own; where some differs the text is read as a whole. Fails only if out of memory.
+// How many bytes a value of a document may have that is read as one tree.
+const SMALL: usize = 65_536;
+
+// How many levels of objects that have more are read member by member: the root, its definitions, a document, and an object in it.
+const LEVELS: u8 = 4;
+
+/// Whether a text is that of a bundle, or why it is no JSON. Of members with one key the last one counts. A small value is read as a tree of its own, and of an
+/// object that is not small its members are; where some differs the text is read as a whole. Fails only if out of memory.
 pub fn is_text_of(
     alloc: Global,
     text: &str,
-    value: &Value,
+    pieces: &Pieces<'_, '_, '_>,
 ) -> Result<Result<bool, Fault>, AllocError> {
-    if is_same_in_parts(alloc, text, value)? {
+    if is_same_in_pieces(alloc, text, pieces)? {
         return Ok(Ok(true));
     }
     match parsed(alloc, text)? {
         Ok(made) => {
-            let is_same = made == *value;
+            let whole = pieces.value(alloc)?;
+            let is_same = made == whole;
+            drop(whole);
             drop(made);
             Ok(Ok(is_same))
         }
@@ -28,36 +37,85 @@ pub fn is_text_of(
     }
 }
 
-// Whether a text is an object whose members are those of a value.
-fn is_same_in_parts(alloc: Global, text: &str, value: &Value) -> Result<bool, AllocError> {
-    let (Some(own), Some(members)) = (value.as_object(), members_of(alloc, text)?) else {
-        return Ok(false);
-    };
-    let mut same = BTreeMap::new(alloc);
-    for member in &members {
-        let Some(value) = own.get(member.key.as_str()) else {
-            return Ok(false);
-        };
-        let is_same = is_same_below(alloc, member.text_in(text), value)?;
-        same.insert(member.key.as_str(), is_same)?;
-    }
-    Ok(are_all(&same, own))
+// A part of the text, from an offset to another, and what it is to be the text of.
+#[derive(Clone, Copy, Drop)]
+struct Open<'p> {
+    start: usize,
+    end: usize,
+    piece: Piece<'p>,
+    // How many times it may be read member by member, with the objects in it.
+    levels: u8,
 }
 
-// Whether a text is that of a value, an object's by its members.
-fn is_same_below(alloc: Global, text: &str, value: &Value) -> Result<bool, AllocError> {
-    let (Some(own), Some(members)) = (value.as_object(), members_of(alloc, text)?) else {
-        return is_same(alloc, text, value);
+fn is_same_in_pieces(
+    alloc: Global,
+    text: &str,
+    pieces: &Pieces<'_, '_, '_>,
+) -> Result<bool, AllocError> {
+    let mut open = Vec::new(alloc);
+    open.push(Open {
+        start: 0,
+        end: text.len(),
+        piece: pieces.whole(),
+        levels: LEVELS,
+    })?;
+    for _ in 0..u64::MAX {
+        let Some(next) = open.pop() else {
+            return Ok(true);
+        };
+        if !is_same_part(alloc, text, pieces, next, &mut open)? {
+            return Ok(false);
+        }
+    }
+    Ok(false)
+}
+
+// Whether a part of the text is that of a piece, where the members that are added are those of its members.
+fn is_same_part<'p>(
+    alloc: Global,
+    text: &str,
+    pieces: &Pieces<'p, '_, '_>,
+    next: Open<'p>,
+    open: &mut Vec<Open<'p>>,
+) -> Result<bool, AllocError> {
+    let part = text.get(next.start..next.end).unwrap_or("");
+    match next.piece {
+        Piece::Text(added) => is_quoted(alloc, part, added),
+        Piece::Own(value) if part.len() <= SMALL || next.levels == 0 || !value.is_object() => {
+            is_same(alloc, part, value)
+        }
+        _ => push_members(alloc, part, pieces, next, open),
+    }
+}
+
+// Adds the members of a part of the text with those of a piece. Returns whether both have the same keys.
+fn push_members<'p>(
+    alloc: Global,
+    part: &str,
+    pieces: &Pieces<'p, '_, '_>,
+    next: Open<'p>,
+    open: &mut Vec<Open<'p>>,
+) -> Result<bool, AllocError> {
+    let (Some(own), Some(read)) = (pieces.members(alloc, next.piece)?, members_of(alloc, part)?)
+    else {
+        return Ok(false);
     };
-    let mut same = BTreeMap::new(alloc);
-    for member in &members {
-        let Some(value) = own.get(member.key.as_str()) else {
+    let mut last = BTreeMap::new(alloc);
+    for member in &read {
+        last.insert(member.key.as_str(), member.range_in(part))?;
+    }
+    for (key, (start, end)) in &last {
+        let Some(piece) = own.get(*key) else {
             return Ok(false);
         };
-        let is_same = is_same(alloc, member.text_in(text), value)?;
-        same.insert(member.key.as_str(), is_same)?;
+        open.push(Open {
+            start: next.start.saturating_add(*start),
+            end: next.start.saturating_add(*end),
+            piece: *piece,
+            levels: next.levels.saturating_sub(1),
+        })?;
     }
-    Ok(are_all(&same, own))
+    Ok(last.len() == own.len())
 }
 
 // Whether a text is that of a value.
@@ -75,9 +133,19 @@ fn is_same(alloc: Global, text: &str, value: &Value) -> Result<bool, AllocError>
     }
 }
 
-// Whether each member of an object is there, and is the same.
-fn are_all(same: &BTreeMap<&str, bool>, own: &Map<String, Value>) -> bool {
-    same.len() == own.len() && same.values().all(|is_same| *is_same)
+// Whether a text is that of a JSON string with a text.
+fn is_quoted(alloc: Global, part: &str, text: &str) -> Result<bool, AllocError> {
+    match parsed(alloc, part)? {
+        Ok(made) => {
+            let is_same = made.as_str() == Some(text);
+            drop(made);
+            Ok(is_same)
+        }
+        Err(fault) => {
+            drop(fault);
+            Ok(false)
+        }
+    }
 }
 
 // A member of the object that a text is: its key, where its value begins, and where the next member begins or the object ends.
@@ -89,10 +157,11 @@ struct Member {
 }
 
 impl Member {
-    // The text of its value.
-    fn text_in<'t>(&self, text: &'t str) -> &'t str {
+    // Where the text of its value begins and ends.
+    fn range_in(&self, text: &str) -> (usize, usize) {
         let part = text.get(self.start..self.end).unwrap_or("").trim_end();
-        part.strip_suffix(',').unwrap_or(part)
+        let part = part.strip_suffix(',').unwrap_or(part);
+        (self.start, self.start.saturating_add(part.len()))
     }
 }
 

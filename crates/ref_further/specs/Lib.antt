@@ -1,1 +1,3 @@
 pub mod Further
+pub mod Survey
+pub mod Surveyed

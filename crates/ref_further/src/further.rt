@@ -17,8 +17,8 @@ use ref_reach::{Documents, Place, Reached, documents_of, reach, reach_schemas, s
 use referencing::Registry;
 use std::alloc::{AllocError, Global};
 
-// What is reached from the schemas of documents.
-fn led<'r>(
+/// What is reached from the schemas of documents.
+pub(crate) fn led<'r>(
     alloc: Global,
     documents: &Documents<'r>,
     draft: Draft,
@@ -36,8 +36,11 @@ fn led<'r>(
     Ok(places)
 }
 
-// What is reached from the descriptions among documents.
-fn described<'r>(alloc: Global, documents: &Documents<'r>) -> Result<Vec<Place<'r>>, AllocError>
+/// What is reached from the descriptions among documents.
+pub(crate) fn described<'r>(
+    alloc: Global,
+    documents: &Documents<'r>,
+) -> Result<Vec<Place<'r>>, AllocError>
     ensures { IfOk result
         (λ places. AreReached (around_descriptions (known_of documents.now))
         (map place_of places.items)) }

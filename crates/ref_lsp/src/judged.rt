@@ -8,7 +8,7 @@ use ref_messages::{Level, Message, Other};
 use ref_outline::spans::{offset_of, token_end};
 use ref_protocol::encoding::place_at;
 use ref_protocol::pieces::{Range, push_comma, push_location, push_number, push_range, push_text};
-use ref_workspace::{Describer, Finding, Report, Silences};
+use ref_workspace::{Describer, Finding, Known, Report, Silences};
 use std::alloc::{AllocError, Global};
 use std::collections::BTreeMap;
 
@@ -36,10 +36,8 @@ pub struct Bounds {
     pub judged: Vec<bool>,
     /// Those that are looked at.
     pub there: Vec<bool>,
-    /// Whether references lead to places that no keyword leads to in other documents.
-    pub is_led: bool,
-    /// Whether references may come back to where they began, in all documents; where nothing says it, it is found out.
-    pub may_come_back: Option<bool>,
+    /// What is known of all documents; where nothing is, it is found out.
+    pub known: Option<Known>,
 }
 
 impl Bounds {
@@ -48,8 +46,7 @@ impl Bounds {
         Bounds {
             judged: Vec::new(alloc),
             there: Vec::new(alloc),
-            is_led: false,
-            may_come_back: None,
+            known: None,
         }
     }
 
@@ -79,10 +76,8 @@ pub struct Judged {
     pub fixes: Vec<Fix>,
     /// By the numbers of the documents, what is to be known of each that was judged.
     pub notes: Vec<Note>,
-    /// Whether what references lead to was looked at, in those documents.
-    pub is_led: bool,
-    /// Whether references may come back to where they began, in all documents.
-    pub may_come_back: bool,
+    /// What is known of all documents; of those that were judged, whether what references lead to was looked at.
+    pub known: Known,
 }
 
 /// What is wrong with documents of a desk.
@@ -92,10 +87,16 @@ pub fn judge(desk: &Desk<'_>, rules: &mut Rules, bounds: &Bounds) -> Result<Judg
         findings,
         is_led,
         may_come_back,
+        unused,
         ..
     } = report_within(desk, bounds)?;
     let findings = within(alloc, bounds, findings)?;
-    let mut judged = Judged::new(desk, (is_led, may_come_back))?;
+    let known = Known {
+        is_led,
+        may_come_back,
+        unused,
+    };
+    let mut judged = Judged::new(desk, known)?;
     judged.note_all(findings.as_slice());
     judged.add_all(desk, rules, bounds, findings.as_slice())?;
     for open in &desk.open {
@@ -107,10 +108,10 @@ pub fn judge(desk: &Desk<'_>, rules: &mut Rules, bounds: &Bounds) -> Result<Judg
 // What is wrong with the documents that are looked at.
 fn report_within<'d>(desk: &'d Desk<'_>, bounds: &Bounds) -> Result<Report<'d>, AllocError> {
     let there = bounds.there.as_slice();
-    match bounds.may_come_back {
-        Some(may) => desk
+    match &bounds.known {
+        Some(known) => desk
             .workspace
-            .report_among(desk.alloc(), there, bounds.is_led, may),
+            .report_among(desk.alloc(), there, known.again()?),
         None => desk.workspace.full_report(desk.alloc()),
     }
 }
@@ -153,7 +154,7 @@ fn level_of(
 
 impl Judged {
     // Nothing yet.
-    fn new(desk: &Desk<'_>, (is_led, may_come_back): (bool, bool)) -> Result<Judged, AllocError> {
+    fn new(desk: &Desk<'_>, known: Known) -> Result<Judged, AllocError> {
         let alloc = desk.alloc();
         let mut notes = Vec::with_capacity(alloc, desk.workspace.len())?;
         for _ in 0..desk.workspace.len() {
@@ -167,8 +168,7 @@ impl Judged {
             lists: BTreeMap::new(alloc),
             fixes: Vec::new(alloc),
             notes,
-            is_led,
-            may_come_back,
+            known,
         })
     }
 

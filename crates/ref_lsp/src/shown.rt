@@ -8,8 +8,10 @@ use ref_protocol::pieces::push_text;
 use ref_protocol::sending::Unsent;
 use ref_protocol::wire::Wire;
 use ref_streams::{Sink, Source};
-use ref_workspace::Summary;
-use ref_workspace::near::{altered, around, connected, has_description_beyond, may_any_come_back};
+use ref_workspace::near::{
+    altered, around, connected, has_description_beyond, may_any_come_back, unused_after,
+};
+use ref_workspace::{Known, Summary, Unused};
 use std::alloc::{AllocError, Global};
 use std::collections::BTreeMap;
 use std::mem::swap;
@@ -51,9 +53,8 @@ pub struct Kept {
     summaries: Vec<Rc<Summary>>,
     // By the numbers of the documents.
     notes: Vec<Note>,
-    // Whether what references lead to was looked at, and whether references may come back to where they began.
-    is_led: bool,
-    may_come_back: bool,
+    // What was known of all documents; nothing where nothing was judged.
+    known: Option<Known>,
 }
 
 // How many searches for what may be meant the `lint` of all documents surely ends: each takes at most a fiftieth of what all may take.
@@ -66,49 +67,64 @@ impl Kept {
             round: None,
             summaries: Vec::new(alloc),
             notes: Vec::new(alloc),
-            is_led: false,
-            may_come_back: false,
+            known: None,
         }
     }
 
     // Which documents are to be judged: nothing where all are.
     fn bounds(&self, desk: &Desk<'_>) -> Result<Option<Bounds>, AllocError> {
-        let alloc = desk.alloc();
+        let Some(known) = &self.known else {
+            return Ok(None);
+        };
         let is_known = self.round == Some(desk.summaries.round);
         if !is_known || !desk.summaries.are_complete || !self.is_bounded(None) {
             return Ok(None);
         }
+        let alloc = desk.alloc();
+        let after = desk.summaries.list.as_slice();
+        let before = self.summaries.as_slice();
+        let may = may_any_come_back(alloc, before, after, known.may_come_back)?;
+        let unused = unused_after(alloc, before, after, &known.unused)?;
+        if known.is_led || known.may_come_back {
+            self.led_bounds(alloc, known, after, (may, unused))
+        } else if may {
+            drop(unused);
+            Ok(None)
+        } else {
+            self.plain_bounds(alloc, known, after, unused)
+        }
+    }
+
+    // By the numbers of the documents, whether one refers to a document that isn't there.
+    fn wanting(&self, alloc: Global) -> Result<Vec<bool>, AllocError> {
         let mut wanting = Vec::with_capacity(alloc, self.notes.len())?;
         for note in &self.notes {
             wanting.push(note.is_wanting)?;
         }
-        let after = desk.summaries.list.as_slice();
-        let before = self.summaries.as_slice();
-        let may = may_any_come_back(alloc, before, after, self.may_come_back)?;
-        if self.is_led || self.may_come_back {
-            self.led_bounds(alloc, desk, wanting.as_slice(), may)
-        } else if may {
-            Ok(None)
-        } else {
-            self.plain_bounds(alloc, desk, wanting.as_slice())
-        }
+        Ok(wanting)
     }
 
     // The bounds where references aren't followed on.
     fn plain_bounds(
         &self,
         alloc: Global,
-        desk: &Desk<'_>,
-        wanting: &[bool],
+        known: &Known,
+        after: &[Rc<Summary>],
+        unused: Rc<Unused>,
     ) -> Result<Option<Bounds>, AllocError> {
-        let after = desk.summaries.list.as_slice();
-        let judged = altered(alloc, self.summaries.as_slice(), after, wanting)?;
+        let wanting = self.wanting(alloc)?;
+        let before = self.summaries.as_slice();
+        let mut judged = altered(alloc, before, after, wanting.as_slice())?;
+        let _ = unused.note_moved(&known.unused, &mut judged);
         let there = around(alloc, after, judged.as_slice())?;
         Ok(Some(Bounds {
             judged,
             there,
-            is_led: false,
-            may_come_back: Some(false),
+            known: Some(Known {
+                is_led: false,
+                may_come_back: false,
+                unused,
+            }),
         }))
     }
 
@@ -116,21 +132,29 @@ impl Kept {
     fn led_bounds(
         &self,
         alloc: Global,
-        desk: &Desk<'_>,
-        wanting: &[bool],
-        may: bool,
+        known: &Known,
+        after: &[Rc<Summary>],
+        (may, unused): (bool, Rc<Unused>),
     ) -> Result<Option<Bounds>, AllocError> {
-        let after = desk.summaries.list.as_slice();
-        let Some(judged) = connected(alloc, self.summaries.as_slice(), after, wanting)? else {
+        let wanting = self.wanting(alloc)?;
+        let before = self.summaries.as_slice();
+        let Some(judged) = connected(alloc, before, after, wanting.as_slice())? else {
             return Ok(None);
         };
+        let mut judged = judged;
+        if unused.note_moved(&known.unused, &mut judged) {
+            return Ok(None);
+        }
         let is_led = has_description_beyond(after, judged.as_slice());
         let there = Vec::from_slice(alloc, judged.as_slice())?;
         Ok(Some(Bounds {
             judged,
             there,
-            is_led,
-            may_come_back: Some(may),
+            known: Some(Known {
+                is_led,
+                may_come_back: may,
+                unused,
+            }),
         }))
     }
 
@@ -287,15 +311,13 @@ impl Shown {
             lists,
             fixes,
             notes,
-            is_led,
-            may_come_back,
+            known,
         } = judged;
         self.told.lists = lists;
         self.told.fixes = fixes;
         self.told.is_fresh = true;
         self.kept.notes = notes;
-        self.kept.is_led = is_led;
-        self.kept.may_come_back = may_come_back;
+        self.kept.known = Some(known);
         self.kept.round = Some(desk.summaries.round);
         self.kept.keep_summaries(desk)?;
         Ok(())
@@ -309,7 +331,8 @@ impl Shown {
         bounds: Bounds,
     ) -> Result<(), Unsent> {
         let judged = judge(desk, &mut self.rules, &bounds)?;
-        if judged.is_led != self.kept.is_led || !self.kept.is_bounded(Some((&bounds, &judged))) {
+        let was_led = self.kept.known.as_ref().is_some_and(|known| known.is_led);
+        if judged.known.is_led != was_led || !self.kept.is_bounded(Some((&bounds, &judged))) {
             drop(judged);
             return self.refresh_all(desk, wire);
         }
@@ -328,8 +351,7 @@ impl Shown {
             lists,
             fixes,
             notes,
-            may_come_back,
-            ..
+            known,
         } = judged;
         for (number, note) in notes.into_iter().enumerate() {
             if bounds.has(number) {
@@ -338,7 +360,7 @@ impl Shown {
         }
         self.take_lists(desk.alloc(), wire, lists)?;
         self.told.add_fixes(fixes)?;
-        self.kept.may_come_back = may_come_back;
+        self.kept.known = Some(known);
         self.kept.keep_summaries(desk)?;
         self.told.is_fresh = true;
         Ok(())

@@ -34,7 +34,7 @@ quoted_count quote escapes escaped (b ∷ rest) =
 
 abbrev pub begins_with_blank : List ℕ → Bool
 begins_with_blank [] = true
-begins_with_blank (b ∷ rest) = b == 32 || b == 10 || b == 13
+begins_with_blank (b ∷ rest) = b == 32 || b == 9 || b == 10 || b == 13
 
 abbrev pub begins_with_hash : List ℕ → Bool
 begins_with_hash [] = false
@@ -45,7 +45,7 @@ begins_with_hash (b ∷ rest) = b == 35
 abbrev pub ends_plain : ℕ → List ℕ → Bool
 ends_plain b rest =
     b == 10 || b == 13 || b == 44 || b == 125 || b == 93 || (b == 58 && begins_with_blank rest)
-    || (b == 32 && begins_with_hash rest)
+    || ((b == 32 || b == 9) && begins_with_hash rest)
 
 -- how many bytes a scalar without quotes has, without the blanks at its end: so many were passed, and up to so many it goes on
 abbrev pub plain_count : ℕ → ℕ → List ℕ → ℕ

@@ -3,6 +3,7 @@
 //! [`Outline`] reads a text once, also one that is at fault somewhere.
 #![tactic(auto)]
 
+pub mod examples;
 pub mod outline;
 pub mod spans;
 

@@ -129,7 +129,9 @@ fn begins_with_blank(bytes: &[u8]) -> bool
 {
     match bytes {
         [] => true,
-        [first, ..] => *first == b' ' || *first == b'\n' || *first == b'\r',
+        [first, ..] => {
+            *first == b' ' || *first == b'\t' || *first == b'\n' || *first == b'\r'
+        }
     }
 }
 
@@ -153,7 +155,7 @@ fn ends_plain(byte: u8, rest: &[u8]) -> bool
         || byte == b'}'
         || byte == b']'
         || (byte == b':' && begins_with_blank(rest))
-        || (byte == b' ' && begins_with_hash(rest))
+        || ((byte == b' ' || byte == b'\t') && begins_with_hash(rest))
 }
 
 // How many bytes a scalar without quotes has, without the blanks at its end.

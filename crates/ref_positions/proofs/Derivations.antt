@@ -1,5 +1,6 @@
 -- What is found in the events of a row.
-use Rattle.std.proofs.Common.{◌≡◌, ℕ, zero, suc, List, [], ◌∷◌, Option, Some, None, get_or, replicate, refl, ap, subst, codes}
+use Rattle.std.proofs.Common.{◌≡◌, ℕ, zero, suc, List, [], ◌∷◌, Option, Some, None, get_or, length, replicate, refl, ap, sym, subst, ◌∙◌, arith, codes}
+use Rattle.json.specs.Token as json
 use Rattle.ref_yaml.specs.Rows as yaml
 use Rattle.ref_yaml.proofs.Derivations.{plain_key}
 use Rattle.ref_yaml.specs.declared.event.Kind.TheVariants.{BeginObject, EndObject, Plain, SingleQuoted}
@@ -7,7 +8,8 @@ use Rattle.ref_positions.specs.Paths.{member}
 use Rattle.ref_positions.specs.Parts.{Token, Next, next, value, name, key, object, scalar, close, parts}
 use Rattle.ref_positions.specs.Walks.{not_found, counted, IsCounted}
 use Rattle.ref_positions.specs.Events.{IsTokenOf, AreTokens, AreFoundIn}
-use Rattle.ref_positions.specs.Rows.{asked, named_found, named_tokens}
+use Rattle.ref_positions.specs.Json.{AreFoundInJson, tokens_at, tokens_in}
+use Rattle.ref_positions.specs.Rows.{asked, named_found, named_json, named_tokens}
 use Rattle.ref_positions.specs.declared.walk.Found.{Found}
 
 key_token : IsTokenOf yaml.named asked (name []) (yaml.key Plain 1 2) Plain (key (codes "a") 1)
@@ -66,3 +68,22 @@ not_found_in (t ∷ ts) are is =
 
 pub nothing_found : AreFoundIn yaml.named asked yaml.named_events (replicate 2 not_found) → ⊥
 nothing_found is = not_found_in is.0 is.1 is.2
+
+-- tokens of JSON, wherever they are
+abbrev offsets : List ℕ
+offsets = 0 ∷ 1 ∷ 4 ∷ 7 ∷ []
+
+pub are_found_in_json : (text : List ℕ) → tokens_in text ≡ named_json → AreFoundInJson text asked named_found
+are_found_in_json text is =
+    (offsets, ap length (sym is), subst (λ (ts : List json.Token). IsCounted asked named_found (parts (value []) 0 (tokens_at ts offsets))) (sym is) are_counted)
+
+not_counted_at : (starts : List ℕ) → 4 ≡ length starts → IsCounted asked (replicate 2 not_found) (parts (value []) 0 (tokens_at named_json starts)) → ⊥
+not_counted_at [] long is = absurd (omega (arith, long))
+not_counted_at (a ∷ []) long is = absurd (omega (arith, long))
+not_counted_at (a ∷ b ∷ []) long is = absurd (omega (arith, long))
+not_counted_at (a ∷ b ∷ c ∷ []) long is = absurd (omega (arith, long))
+not_counted_at (a ∷ b ∷ c ∷ d ∷ more) long is = none_some (0, a) (ap (λ (f : Found). f.value) (is.1 0))
+
+pub nothing_found_in_json : (text : List ℕ) → tokens_in text ≡ named_json → AreFoundInJson text asked (replicate 2 not_found) → ⊥
+nothing_found_in_json text is found =
+    not_counted_at found.0 (ap length (sym is) ∙ sym found.1) (subst (λ (ts : List json.Token). IsCounted asked (replicate 2 not_found) (parts (value []) 0 (tokens_at ts found.0))) is found.2)

@@ -1,6 +1,7 @@
 pub mod Counted
 pub mod Derivations
 pub mod Indexes
+pub mod Json
 pub mod Paths
 pub mod Spots
 pub mod Tokens

@@ -1,5 +1,6 @@
 pub mod Events
 pub mod Formats
+pub mod Json
 pub mod Lines
 pub mod Located
 pub mod Parts

@@ -1,5 +1,6 @@
 -- Literals for rows that compute.
 use Rattle.std.specs.Prelude.{ℕ, List, [], ◌∷◌, codes, Option, Some, None}
+use Rattle.json.specs.Token as json
 use Rattle.ref_positions.specs.Paths.{Path, member}
 use Rattle.ref_positions.specs.declared.walk.Found.{Found}
 use Rattle.ref_positions.specs.Parts.{Token, key, object, array, scalar, close}
@@ -25,3 +26,7 @@ named_tokens = object 0 ∷ key (codes "a") 1 ∷ scalar 4 ∷ close ∷ []
 
 abbrev pub named_found : List Found
 named_found = record { key = None; value = Some (0, 0) } ∷ record { key = Some (1, 1); value = Some (2, 4) } ∷ []
+
+-- the tokens of `{"a":"b"}` as JSON
+abbrev pub named_json : List json.Token
+named_json = json.begin_object ∷ json.key (codes "a") ∷ json.string (codes "b") ∷ json.end_object ∷ []

@@ -1,13 +1,15 @@
 //! Rows of the definitions. Each function is empty: its contract states rows, and the check computes them.
 #![tactic(auto)]
 
-ghost use Rattle.std.specs.Prelude.{◌≡◌, ℕ, [], ◌∷◌, Some, None, true, false, codes, replicate};
+ghost use Rattle.std.specs.Prelude.{◌≡◌, ℕ, List, [], ◌∷◌, Some, None, true, false, codes, replicate};
 ghost use Rattle.ref_positions.specs.Lines.{begins_character, next_line, next_column, next_unit, line_of, column_of, unit_of, units_of, IsAt};
 ghost use Rattle.ref_positions.specs.declared.format.Format.TheVariants.{Json, Yaml};
 ghost use Rattle.ref_positions.specs.Formats.{format_of};
 ghost use Rattle.ref_positions.specs.Paths.{member, item, below, number_of};
 ghost use Rattle.ref_positions.specs.Parts.{close, key, name, object, parts, scalar, value, value_in, key_in};
-ghost use Rattle.ref_positions.specs.Rows.{asked, letters, listed, named_found, named_tokens, twice};
+ghost use Rattle.json.specs.Token as json;
+ghost use Rattle.ref_positions.specs.Json.{AreFoundInJson, token_at, tokens_at, tokens_in};
+ghost use Rattle.ref_positions.specs.Rows.{asked, letters, listed, named_found, named_json, named_tokens, twice};
 ghost use Rattle.ref_positions.specs.Events.{AreFoundIn, AreTokens, IsTokenOf};
 ghost use Rattle.ref_positions.specs.Located.{IsSpot, key_at, value_at};
 ghost use Rattle.ref_positions.specs.Walks.{IsCounted, not_found};
@@ -118,6 +120,18 @@ pub fn found_in_events()
     ensures nothing_counted { ¬ (IsCounted asked (replicate 2 not_found) (parts (value []) 0 named_tokens)) }
     ensures found { AreFoundIn yaml.named asked yaml.named_events named_found }
     ensures nothing_found { ¬ (AreFoundIn yaml.named asked yaml.named_events (replicate 2 not_found)) }
+{}
+
+/// The tokens of JSON, and what is found in them of the whole value and its member `a`, wherever they are.
+pub fn tokens_of_json()
+    ensures key { token_at (json.key (codes "a")) 1 ≡ key (codes "a") 1 }
+    ensures text { token_at (json.string (codes "a")) 4 ≡ scalar 4 }
+    ensures bad { token_at json.bad 4 ≡ scalar 4 }
+    ensures end { token_at json.end_array 4 ≡ close }
+    ensures tokens { tokens_at named_json (0 ∷ 1 ∷ 4 ∷ 7 ∷ []) ≡ named_tokens }
+    ensures others { tokens_at named_json (2 ∷ 5 ∷ 9 ∷ 12 ∷ []) ≡ object 2 ∷ key (codes "a") 5 ∷ scalar 9 ∷ close ∷ [] }
+    ensures found { (text : List ℕ) → tokens_in text ≡ named_json → AreFoundInJson text asked named_found }
+    ensures nothing_found { (text : List ℕ) → tokens_in text ≡ named_json → ¬ (AreFoundInJson text asked (replicate 2 not_found)) }
 {}
 
 /// Where places are of what was found, and the positions at offsets.

@@ -1,9 +1,11 @@
 //! What is found of the places that are asked for, in a text of JSON and in one of YAML.
-ghost use Rattle.std.specs.Prelude.{◌≡◌, ◌≤◌, ◌<◌, IfOk, IfNone, IfSome, List, length};
+ghost use Rattle.std.specs.Prelude.{◌≡◌, ◌≤◌, ◌<◌, IfOk, OnOk, IfNone, IfSome, List, [], length};
+ghost use Rattle.json.specs.Lex.{tokens};
 ghost use Rattle.ref_positions.specs.Events.{AreFoundIn, HasUnnamed};
-ghost use Rattle.ref_positions.specs.Parts.{Part, within};
+ghost use Rattle.ref_positions.specs.Json.{AreFoundInJson, IsThrough};
+ghost use Rattle.ref_positions.specs.Parts.{Part, value, within};
 ghost use Rattle.ref_positions.specs.Places.{IsTree};
-ghost use Rattle.ref_positions.specs.Walks.{IsTable, IsCounted, settled};
+ghost use Rattle.ref_positions.specs.Walks.{IsTable, IsWalk, IsCounted, settled};
 
 use crate::places::Places;
 use crate::walk::{Found, Walk};
@@ -12,23 +14,35 @@ use ref_yaml::Document;
 use std::alloc::{AllocError, Global};
 
 impl Places {
-    pub(crate) fn found_in_json(
-        &self,
-        alloc: Global,
-        text: &str,
-    ) -> Result<Vec<Found>, AllocError> {
+    pub(crate) fn found_in_json(&self, alloc: Global, text: &str) -> Result<Vec<Found>, AllocError>
+        ensures found { IfOk result (λ found. AreFoundInJson text.now self.now found.items) }
+    {
         let mut scratch = Scratch::new(alloc);
         let mut walk = Walk::new(alloc, self)?;
         let mut reader = Reader::new(text, &mut scratch)?;
-        // Each token has a byte at least.
-        for number in 0..=text.len() {
+        self.pass_tokens(text, &mut reader, &mut walk)?;
+        Ok(self.last_of(walk.into_found()))
+    }
+
+    // Passes the tokens of a text. Each has a byte at least.
+    fn pass_tokens(
+        &self,
+        text: &str,
+        reader: &mut Reader<'_>,
+        walk: &mut Walk,
+    ) -> Result<(), AllocError>
+        requires reader { reader.old ≡ tokens text.now }
+        requires walk { IsWalk self.now walk.old 0 (value []) [] }
+        ensures through { OnOk result (IsThrough text.now self.now walk.new) }
+    {
+        for number in 0..text.len() + 1 {
             let offset = reader.offset();
             let Some(token) = reader.next() else {
-                break;
+                return Ok(());
             };
             walk.pass_token(self, &token, number, offset)?;
         }
-        Ok(self.last_of(walk.into_found()))
+        Ok(())
     }
 
     // What is found in a document, or nothing where a key has no text that is in an object that is asked for.

@@ -20,4 +20,4 @@ pub use format::Format;
 pub use locate::Located;
 pub use part::{Part, Step, part_at};
 pub use places::Places;
-pub use position::Position;
+pub use position::{Position, line_and_column};

@@ -1,8 +1,9 @@
 //! One pass over a text for all places that are asked for.
 ghost use Rattle.std.specs.Prelude.{◌≡◌, IfOk, IfSome, IfNone, slice_index_or, replicate, length};
 ghost use Rattle.ref_positions.specs.Walks.{not_found};
-ghost use Rattle.ref_positions.specs.declared.format.Format.TheVariants.{Yaml};
+ghost use Rattle.ref_positions.specs.declared.format.Format.TheVariants.{Json, Yaml};
 ghost use Rattle.ref_positions.specs.Events.{AreFoundIn, AreFoundInYaml, HasUnnamed};
+ghost use Rattle.ref_positions.specs.Json.{AreFoundInJson};
 ghost use Rattle.ref_positions.specs.Located.{IsSpot, key_at, value_at};
 
 use crate::format::Format;
@@ -68,6 +69,8 @@ impl Places {
         text: &'t str,
     ) -> Result<Located<'t>, AllocError>
         ensures text { IfOk result (λ located. located.table.text.now ≡ text.now) }
+        ensures json { format ≡ Json
+            → IfOk result (λ located. AreFoundInJson text.now self.now located.found.items) }
         ensures yaml { format ≡ Yaml
             → IfOk result (λ located. AreFoundInYaml text.now self.now located.found.items) }
     {

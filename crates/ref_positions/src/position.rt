@@ -1,5 +1,6 @@
 //! A place in a text, as a line and a column.
 ghost use Rattle.std.specs.Prelude.{◌≡◌, ◌≤◌, ◌<◌, ◌+◌, ◌-◌, ◌^◌, length};
+ghost use Rattle.std.specs.Option.{option_map_or};
 ghost use Rattle.ref_positions.specs.Lines.{line_of, column_of, unit_of, units_of, next_line, next_column, next_unit, begins_character, IsAt, IsUnitAt};
 
 /// A place in a text: its offset in bytes, its line and its column. An offset is at most the text's length.
@@ -127,6 +128,18 @@ impl<'a> Position<'a> {
             place = place.after_byte();
         }
         place
+    }
+}
+
+/// The line and the column of a position, or those of the beginning of a text where there is none.
+pub fn line_and_column(position: Option<Position<'_>>) -> (usize, usize)
+    ensures value { result
+        ≡ option_map_or (λ p. (line_of p.text.now p.offset, column_of p.text.now p.offset))
+        position.entry (1, 1) }
+{
+    match position {
+        Some(position) => (position.line(), position.column()),
+        None => (1, 1),
     }
 }
 

@@ -1,9 +1,11 @@
 //! The walk over the tokens of a text, which notes where the places are that are asked for.
 ghost use Rattle.std.specs.Prelude.{◌≡◌, ◌≤◌, ◌<◌, ◌+◌, ◌-◌, ◌^◌, ℕ, List, [], ◌∷◌, ◌++◌, Option, Some, None, IfOk, OnOk, IsTrue, ◌↔◌, IsSome, length, replicate, true, false};
+ghost use Rattle.json.specs.Reads.{token_of};
 ghost use Rattle.ref_yaml.specs.Events.{is_scalar, IsWithin};
 ghost use Rattle.ref_positions.specs.Paths.{Path, Step, member, item, number_of};
 ghost use Rattle.ref_positions.specs.Parts.{Next, key, object, array, scalar, close, value, name, next, after, Part, begun};
 ghost use Rattle.ref_positions.specs.Events.{Takes, Stops};
+ghost use Rattle.ref_positions.specs.Json.{token_at};
 ghost use Rattle.ref_positions.specs.Places.{IsTree};
 ghost use Rattle.ref_positions.specs.Walks.{IsTable, IsStep, IsNamed, AreOpen, IsComing, IsFew, IsWalk, Passes, with_value, with_key, not_found, ends, is_item, is_asked, IsOtherKey};
 
@@ -292,15 +294,29 @@ impl Walk {
         token: &Token<'_>,
         number: usize,
         start: usize,
-    ) -> Result<(), AllocError> {
+    ) -> Result<(), AllocError>
+        ensures passes { OnOk result (Passes places.now self.old self.new number (token_at (token_of token.now) start)) }
+    {
         match token {
-            Token::Key(text) => self.pass_key(places, number, start, *text),
-            Token::EndObject | Token::EndArray => self.pass_end(),
-            Token::BeginObject => self.pass_object(places, number, start)?,
-            Token::BeginArray => self.pass_array(places, number, start)?,
-            _ => self.pass_scalar(places, number, start),
+            Token::Key(text) => {
+                self.pass_key(places, number, start, *text);
+                Ok(())
+            }
+            Token::EndObject => {
+                self.pass_end();
+                Ok(())
+            }
+            Token::EndArray => {
+                self.pass_end();
+                Ok(())
+            }
+            Token::BeginObject => self.pass_object(places, number, start),
+            Token::BeginArray => self.pass_array(places, number, start),
+            _ => {
+                self.pass_scalar(places, number, start);
+                Ok(())
+            }
         }
-        Ok(())
     }
 
     // Passes an event of YAML, and returns whether it could: not a key without a text in an object that is asked for.

@@ -1,2 +1,4 @@
 pub mod Lists
 pub mod Turning
+pub mod Searching
+pub mod Circling

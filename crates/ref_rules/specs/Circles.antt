@@ -1,5 +1,5 @@
 -- Steps from place to place that come back to where they began.
-use Rattle.std.specs.Prelude.{ℕ, List, [], ◌∷◌, Bool, true, false, ◌&&◌, ◌==◌, Option, Some, None, slice_get}
+use Rattle.std.specs.Prelude.{ℕ, List, [], ◌∷◌, Bool, false, ◌&&◌, ◌==◌, slice_get}
 use Rattle.std.specs.Option.{option_map_or}
 
 -- A step from a place to another one that is applied to the same value, by the numbers of both

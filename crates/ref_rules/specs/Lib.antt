@@ -5,6 +5,7 @@ pub mod Ends
 pub mod Members
 pub mod Cases
 pub mod Circles
+pub mod Reaching
 pub mod Views
 pub mod Rows
 pub mod inner

@@ -1,5 +1,5 @@
 -- Members of one name in an object of a text (RFC 8259, 4: names within an object should be unique).
-use Rattle.std.specs.Prelude.{ℕ, List, [], ◌∷◌, map, flat_map, reverse, decimal, nat_lt, Option, if◌then◌else◌}
+use Rattle.std.specs.Prelude.{ℕ, List, [], ◌∷◌, flat_map, reverse, decimal, nat_lt, Option, if◌then◌else◌}
 use Rattle.std.specs.Option.{option_map_or}
 use Rattle.std.specs.List.{enumerate_from}
 use Rattle.ref_parts.specs.Table.{Entry, last_value}

@@ -1,2 +1,4 @@
 -- What no public clause cites.
 pub mod Adding
+pub mod Searching
+pub mod Circling

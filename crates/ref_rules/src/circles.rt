@@ -1,8 +1,14 @@
 //! Steps from place to place that come back to where they began.
-ghost use Rattle.std.specs.Prelude.{◌≡◌, map, IfOk, OnOk};
+ghost use Rattle.std.specs.Prelude.{◌≡◌, ℕ, ◌<◌, ◌∷◌, ◌++◌, [], List, length, map, true, false, Some, IfOk, OnOk, slice_get, slice_set, vec_len};
+ghost use Rattle.std.specs.List.{list_all};
 ghost use Rattle.ref_rules.specs.Circles.{leads, is_circle};
+ghost use Rattle.ref_rules.specs.Reaching.{is_between};
 ghost use Rattle.ref_rules.specs.Views.{step_of, AreCircles};
+ghost use Rattle.ref_rules.specs.declared.circles.State.TheVariants.{New, Open};
+ghost use Rattle.ref_rules.specs.inner.Searching.{from_of, AreChains};
+ghost use Rattle.ref_rules.specs.inner.Circling.{state_at, entered, round, trace_of, Passes, IsStack, Holds, Kept, measure};
 
+use crate::reaching::{Chains, chains_of, number_at};
 use std::alloc::{AllocError, Global};
 
 /// A step from a place to another one that is applied to the same value, by the numbers of both.
@@ -53,137 +59,40 @@ pub fn is_circle(steps: &[Step], numbers: &[usize]) -> bool
     }
 }
 
-// What is known of a place in a search: how deep it is among those that are open, from 1.
+// What is known of a place in a search.
 #[derive(Clone, Copy, PartialEq, Eq)]
 enum State {
     New,
+    // It is open, with this number among those that are.
     Open(usize),
     Done,
+}
+
+// A place that is open: the next of its steps, and the step that led to it.
+#[derive(Clone, Copy, Drop)]
+struct Opened {
+    place: usize,
+    next: Option<usize>,
+    by: usize,
 }
 
 // A search through steps, which is deep before it is wide.
 #[derive(Drop)]
 struct Search {
-    // The numbers of the steps, by where they begin, and where those of each place begin among them.
-    order: Vec<usize>,
-    starts: Vec<usize>,
     states: Vec<State>,
-    // The places that are open, each with the next of its steps; and the step that led to each but the first.
-    open: Vec<(usize, usize)>,
-    path: Vec<usize>,
-    // How many more steps those circles may have in all that are found before the next search begins.
-    left: usize,
+    // The places that are open, each after the one whose step leads to it.
+    stack: Vec<Opened>,
+    // How many steps were passed, and how many there are in the circles that were found, since the first of these was opened.
+    passed: usize,
+    given: usize,
 }
 
-// The numbers of steps by where they begin.
-fn order_of(alloc: Global, steps: &[Step]) -> Result<Vec<(usize, usize)>, AllocError> {
-    let mut order = Vec::with_capacity(alloc, steps.len())?;
-    for (number, step) in steps.iter().enumerate() {
-        order.push((step.from, number))?;
-    }
-    order.sort_unstable();
-    Ok(order)
-}
-
-// Where the steps of each place begin, and after them the end.
-fn starts_of(
-    alloc: Global,
-    count: usize,
-    order: &[(usize, usize)],
-) -> Result<Vec<usize>, AllocError> {
-    let mut starts = Vec::new(alloc);
-    for (number, (from, _)) in order.iter().enumerate() {
-        for _ in starts.len()..count.min(from.saturating_add(1)) {
-            starts.push(number)?;
-        }
-    }
-    for _ in starts.len()..count.saturating_add(1) {
-        starts.push(order.len())?;
-    }
-    Ok(starts)
-}
-
-fn numbers_of(alloc: Global, order: &[(usize, usize)]) -> Result<Vec<usize>, AllocError> {
-    let mut numbers = Vec::with_capacity(alloc, order.len())?;
-    for (_, number) in order {
-        numbers.push(*number)?;
-    }
-    Ok(numbers)
-}
-
-fn search_of(alloc: Global, count: usize, steps: &[Step]) -> Result<Search, AllocError> {
-    let order = order_of(alloc, steps)?;
-    let starts = starts_of(alloc, count, order.as_slice())?;
-    Ok(Search {
-        order: numbers_of(alloc, order.as_slice())?,
-        starts,
-        states: vec![in alloc; State::New; count]?,
-        open: Vec::new(alloc),
-        path: Vec::new(alloc),
-        left: 0,
-    })
-}
-
-impl Search {
-    fn state(&self, place: usize) -> State {
-        self.states.get(place).copied().unwrap_or(State::Done)
-    }
-
-    fn set(&mut self, place: usize, state: State) {
-        if let Some(slot) = self.states.get_mut(place) {
-            *slot = state;
-        }
-    }
-
-    fn enter(&mut self, place: usize) -> Result<(), AllocError> {
-        let start = self.starts.get(place).copied().unwrap_or(usize::MAX);
-        self.open.push((place, start))?;
-        let depth = self.open.len();
-        self.set(place, State::Open(depth));
-        Ok(())
-    }
-
-    // The next step of the place that was entered last, where it has one more.
-    fn next(&mut self) -> Option<usize> {
-        let (place, at) = self.open.last().copied()?;
-        let end = self
-            .starts
-            .get(place.saturating_add(1))
-            .copied()
-            .unwrap_or(0);
-        if at >= end {
-            return None;
-        }
-        if let Some(last) = self.open.last_mut() {
-            last.1 = at.saturating_add(1);
-        }
-        self.order.get(at).copied()
-    }
-
-    // Leaves the place that was entered last.
-    fn leave(&mut self) {
-        if let Some((place, _)) = self.open.pop() {
-            self.set(place, State::Done);
-        }
-        let _ = self.path.pop();
-    }
-
-    // The steps from an open place on, and one that comes back to it, unless circles have too many steps already.
-    fn circle(
-        &mut self,
-        alloc: Global,
-        depth: usize,
-        number: usize,
-    ) -> Result<Vec<usize>, AllocError> {
-        let front = self.path.get(depth.saturating_sub(1)..).unwrap_or(&[]);
-        let mut circle = Vec::new(alloc);
-        if front.len() >= self.left {
-            return Ok(circle);
-        }
-        self.left = self.left.saturating_sub(front.len().saturating_add(1));
-        circle.extend_from_slice(front)?;
-        circle.push(number)?;
-        Ok(circle)
+// Puts the state of a place, where there is one.
+fn set(states: &mut Vec<State>, place: usize, state: State)
+    ensures { states.new.items ≡ slice_set states.old.items place state }
+{
+    if let Some(slot) = states.get_mut(place) {
+        *slot = state;
     }
 }
 
@@ -193,8 +102,11 @@ fn push_circle(
     steps: &[Step],
     numbers: Vec<usize>,
 ) -> Result<(), AllocError>
-    ensures { AreCircles (map step_of steps.now) list.old.items
+    ensures circles { AreCircles (map step_of steps.now) list.old.items
         → OnOk result (AreCircles (map step_of steps.now) list.new.items) }
+    ensures found { OnOk result
+        (is_circle (map step_of steps.now) numbers.items ≡ true → list.new.items ≡ [] → ⊥) }
+    ensures more { OnOk result (list.new.items ≡ [] → list.old.items ≡ []) }
 {
     if is_circle(steps, numbers.as_slice()) {
         list.push(Circle { steps: numbers })?;
@@ -202,102 +114,232 @@ fn push_circle(
     Ok(())
 }
 
-// Goes on by a step.
-fn pass(
-    alloc: Global,
-    steps: &[Step],
-    search: &mut Search,
-    number: usize,
-    list: &mut Vec<Circle>,
-) -> Result<(), AllocError>
-    ensures { AreCircles (map step_of steps.now) list.old.items
-        → OnOk result (AreCircles (map step_of steps.now) list.new.items) }
-{
-    let Some(step) = steps.get(number) else {
-        return Ok(());
-    };
-    search.left = search.left.saturating_add(16);
-    match search.state(step.to) {
-        State::New => {
-            search.path.push(number)?;
-            search.enter(step.to)
-        }
-        State::Open(depth) => {
-            let numbers = search.circle(alloc, depth, number)?;
-            push_circle(list, steps, numbers)
-        }
-        State::Done => Ok(()),
+impl Search {
+    fn state(&self, place: usize) -> State
+        ensures { result ≡ state_at self.now.states.items place }
+    {
+        self.states.get(place).copied().unwrap_or(State::Done)
     }
-}
 
-// Goes on by one step, or leaves a place, where one is open; says whether there was one.
-fn go_on(
-    alloc: Global,
-    steps: &[Step],
-    search: &mut Search,
-    list: &mut Vec<Circle>,
-) -> Result<bool, AllocError>
-    ensures { AreCircles (map step_of steps.now) list.old.items
-        → IfOk result (λ _. AreCircles (map step_of steps.now) list.new.items) }
-{
-    if search.open.is_empty() {
-        return Ok(false);
+    // Opens a place, to which a step leads.
+    fn enter(&mut self, chains: &Chains, place: usize, by: usize) -> Result<(), AllocError>
+        ensures states { OnOk result
+            (self.new.states.items
+            ≡ slice_set self.old.states.items place (Open (length self.old.stack.items))) }
+        ensures opened { OnOk result
+            (self.new.stack.items
+            ≡ self.old.stack.items ++ entered chains.now.last.items place by ∷ []) }
+        ensures given { OnOk result (self.new.given ≡ self.old.given) }
+    {
+        let number = self.stack.len();
+        let next = number_at(chains.last.as_slice(), place);
+        self.stack.push(Opened { place, next, by })?;
+        set(&mut self.states, place, State::Open(number));
+        Ok(())
     }
-    match search.next() {
-        Some(number) => pass(alloc, steps, search, number, list)?,
-        None => search.leave(),
-    }
-    Ok(true)
-}
 
-// Goes on from the place that was entered, until it is left.
-fn search_on(
-    alloc: Global,
-    steps: &[Step],
-    search: &mut Search,
-    list: &mut Vec<Circle>,
-) -> Result<(), AllocError>
-    ensures { AreCircles (map step_of steps.now) list.old.items
-        → OnOk result (AreCircles (map step_of steps.now) list.new.items) }
-{
-    for count in 0..u64::MAX {
-        if !go_on(alloc, steps, search, list)? {
-            break;
+    // The steps from an open place on, and one that comes back to it.
+    fn circle(&self, alloc: Global, depth: usize, number: usize) -> Result<Vec<usize>, AllocError>
+        ensures { IfOk result
+            (λ numbers. numbers.items ≡ round self.now.stack.items depth number) }
+    {
+        let mut numbers = Vec::new(alloc);
+        for opened in self.stack.get(depth.saturating_add(1)..).unwrap_or(&[]) {
+            numbers.push(opened.by)?;
         }
+        numbers.push(number)?;
+        Ok(numbers)
     }
-    Ok(())
-}
 
-// Searches from a place, unless it was met.
-fn search_from(
-    alloc: Global,
-    steps: &[Step],
-    search: &mut Search,
-    place: usize,
-    list: &mut Vec<Circle>,
-) -> Result<(), AllocError>
-    ensures { AreCircles (map step_of steps.now) list.old.items
-        → OnOk result (AreCircles (map step_of steps.now) list.new.items) }
-{
-    if search.state(place) != State::New {
-        return Ok(());
+    // Adds a circle, unless those that were found since the first place was opened have too many steps already.
+    fn close(
+        &mut self,
+        alloc: Global,
+        steps: &[Step],
+        depth: usize,
+        number: usize,
+        list: &mut Vec<Circle>,
+    ) -> Result<(), AllocError>
+        ensures circles { AreCircles (map step_of steps.now) list.old.items
+            → OnOk result (AreCircles (map step_of steps.now) list.new.items) }
+        ensures states { self.new.states ≡ self.old.states }
+        ensures opened { self.new.stack ≡ self.old.stack }
+        ensures found { OnOk result
+            (self.old.given ≡ 0
+            → is_circle (map step_of steps.now) (round self.old.stack.items depth number) ≡ true
+            → list.new.items ≡ [] → ⊥) }
+        ensures more { OnOk result (list.new.items ≡ [] → list.old.items ≡ []) }
+    {
+        let length = self.stack.len().saturating_sub(depth);
+        let most = self.passed.saturating_mul(16).saturating_add(65_536);
+        if self.given > 0 && self.given.saturating_add(length) > most {
+            return Ok(());
+        }
+        self.given = self.given.saturating_add(length);
+        let numbers = self.circle(alloc, depth, number)?;
+        push_circle(list, steps, numbers)?;
+        Ok(())
     }
-    search.left = 65_536;
-    search.enter(place)?;
-    search_on(alloc, steps, search, list)
+
+    // Passes a step of the place that was opened last.
+    fn pass(
+        &mut self,
+        alloc: Global,
+        steps: &[Step],
+        chains: &Chains,
+        number: usize,
+        list: &mut Vec<Circle>,
+    ) -> Result<(), AllocError>
+        ensures circles { AreCircles (map step_of steps.now) list.old.items
+            → OnOk result (AreCircles (map step_of steps.now) list.new.items) }
+        ensures passes { OnOk result
+            (Passes (map step_of steps.now) chains.now.last.items number
+            (slice_get (map step_of steps.now) number) (trace_of self.old list.old.items)
+            (trace_of self.new list.new.items)) }
+    {
+        let Some(step) = steps.get(number) else {
+            return Ok(());
+        };
+        self.passed = self.passed.saturating_add(1);
+        match self.state(step.to) {
+            State::New => self.enter(chains, step.to, number)?,
+            State::Open(depth) => self.close(alloc, steps, depth, number, list)?,
+            State::Done => {}
+        }
+        Ok(())
+    }
+
+    // Passes the next step of the place that was opened last, or leaves it, where it has no more.
+    fn go_on(
+        &mut self,
+        alloc: Global,
+        steps: &[Step],
+        chains: &Chains,
+        list: &mut Vec<Circle>,
+    ) -> Result<(), AllocError>
+        requires chains { AreChains (from_of (map step_of steps.now)) (vec_len self.old.states)
+            (length steps.now) chains.now.last.items chains.now.before.items }
+        requires stack { IsStack (vec_len self.old.states) (map step_of steps.now)
+            (trace_of self.old list.old.items) }
+        ensures circles { AreCircles (map step_of steps.now) list.old.items
+            → OnOk result (AreCircles (map step_of steps.now) list.new.items) }
+        ensures stack { OnOk result
+            (IsStack (vec_len self.old.states) (map step_of steps.now)
+            (trace_of self.new list.new.items)) }
+        ensures smaller { OnOk result
+            (0 < vec_len self.old.stack → measure (length steps.now) (trace_of self.new list.new.items)
+            < measure (length steps.now) (trace_of self.old list.old.items)) }
+        ensures holds { OnOk result
+            (Holds (vec_len self.old.states) (map step_of steps.now)
+            (trace_of self.old list.old.items)
+            → Holds (vec_len self.old.states) (map step_of steps.now)
+            (trace_of self.new list.new.items)) }
+        ensures kept { OnOk result (Kept (trace_of self.old list.old.items) (trace_of self.new list.new.items)) }
+    {
+        let Some(last) = self.stack.pop() else {
+            return Ok(());
+        };
+        match last.next {
+            Some(number) => {
+                let next = number_at(chains.before.as_slice(), number);
+                self.stack.push(Opened { next, ..last })?;
+                self.pass(alloc, steps, chains, number, list)?;
+            }
+            None => set(&mut self.states, last.place, State::Done),
+        }
+        Ok(())
+    }
+
+    // Goes on from the places that are open, until none is.
+    fn search_on(
+        &mut self,
+        alloc: Global,
+        steps: &[Step],
+        chains: &Chains,
+        list: &mut Vec<Circle>,
+    ) -> Result<(), AllocError>
+        requires chains { AreChains (from_of (map step_of steps.now)) (vec_len self.old.states)
+            (length steps.now) chains.now.last.items chains.now.before.items }
+        requires stack { IsStack (vec_len self.old.states) (map step_of steps.now)
+            (trace_of self.old list.old.items) }
+        ensures circles { AreCircles (map step_of steps.now) list.old.items
+            → OnOk result (AreCircles (map step_of steps.now) list.new.items) }
+        ensures stack { OnOk result
+            (IsStack (vec_len self.old.states) (map step_of steps.now)
+            (trace_of self.new list.new.items)) }
+        ensures none { OnOk result (self.new.stack.items ≡ []) }
+        ensures holds { OnOk result
+            (Holds (vec_len self.old.states) (map step_of steps.now)
+            (trace_of self.old list.old.items)
+            → Holds (vec_len self.old.states) (map step_of steps.now)
+            (trace_of self.new list.new.items)) }
+        ensures kept { OnOk result (Kept (trace_of self.old list.old.items) (trace_of self.new list.new.items)) }
+    {
+        while !self.stack.is_empty() {
+            self.go_on(alloc, steps, chains, list)?;
+        }
+        Ok(())
+    }
+
+    // Searches from a place, unless it was met.
+    fn search_from(
+        &mut self,
+        alloc: Global,
+        steps: &[Step],
+        chains: &Chains,
+        place: usize,
+        list: &mut Vec<Circle>,
+    ) -> Result<(), AllocError>
+        requires chains { AreChains (from_of (map step_of steps.now)) (vec_len self.old.states)
+            (length steps.now) chains.now.last.items chains.now.before.items }
+        requires stack { IsStack (vec_len self.old.states) (map step_of steps.now)
+            (trace_of self.old list.old.items) }
+        requires none { self.old.stack.items ≡ [] }
+        ensures circles { AreCircles (map step_of steps.now) list.old.items
+            → OnOk result (AreCircles (map step_of steps.now) list.new.items) }
+        ensures stack { OnOk result
+            (IsStack (vec_len self.old.states) (map step_of steps.now)
+            (trace_of self.new list.new.items)) }
+        ensures none { OnOk result (self.new.stack.items ≡ []) }
+        ensures holds { OnOk result
+            (Holds (vec_len self.old.states) (map step_of steps.now)
+            (trace_of self.old list.old.items)
+            → Holds (vec_len self.old.states) (map step_of steps.now)
+            (trace_of self.new list.new.items)) }
+        ensures kept { OnOk result (Kept (trace_of self.old list.old.items) (trace_of self.new list.new.items)) }
+        ensures met { OnOk result (state_at self.new.states.items place ≡ New → ⊥) }
+    {
+        let State::New = self.state(place) else {
+            return Ok(());
+        };
+        self.passed = 0;
+        self.given = 0;
+        self.enter(chains, place, 0)?;
+        self.search_on(alloc, steps, chains, list)?;
+        Ok(())
+    }
 }
 
 /// Circles of steps among so many places: one for each step that comes back to a place from which it was reached, in a search that goes deep first, from each
-/// place that wasn't met before, in their order. Of steps that come back there is one circle at least. Where those that are found from one place on have more
+/// place that wasn't met before, in their order. Where steps come back, there is one circle at least. Where those that are found from one place on have more
 /// steps in all than sixteen times those that were passed, and 65,536, no more are given of them. So what is given of places that steps connect depends on no
-/// others. Fails only if out of memory. Linear but for sorting; it doesn't call itself.
+/// others. Fails only if out of memory. Linear in places and steps; it doesn't call itself.
 pub fn circles_of(alloc: Global, count: usize, steps: &[Step]) -> Result<Vec<Circle>, AllocError>
     ensures circles { IfOk result (λ list. AreCircles (map step_of steps.now) list.items) }
+    ensures found { IfOk result (λ list. list.items ≡ [] → (ns : List ℕ)
+        → list_all (is_between count (map step_of steps.now)) ns ≡ true
+        → is_circle (map step_of steps.now) ns ≡ false) }
 {
-    let mut search = search_of(alloc, count, steps)?;
+    let chains = chains_of(alloc, count, steps)?;
+    let mut search = Search {
+        states: vec![in alloc; State::New; count]?,
+        stack: Vec::new(alloc),
+        passed: 0,
+        given: 0,
+    };
     let mut list = Vec::new(alloc);
     for place in 0..count {
-        search_from(alloc, steps, &mut search, place, &mut list)?;
+        search.search_from(alloc, steps, &chains, place, &mut list)?;
     }
     Ok(list)
 }

@@ -10,6 +10,7 @@ ghost use Rattle.ref_rules.specs.Ends.{is_schema, no_schemas};
 ghost use Rattle.ref_rules.specs.Members.{repeats};
 ghost use Rattle.ref_rules.specs.Cases.{all_alike};
 ghost use Rattle.ref_rules.specs.Circles.{is_circle};
+ghost use Rattle.ref_rules.specs.Reaching.{leads_between};
 ghost use Rattle.ref_rules.specs.Rows.{root, inner, told, end, member, again, like, step};
 
 /// The keywords of others, of each draft.
@@ -143,4 +144,16 @@ pub fn steps_that_come_back()
     ensures twice_around { is_circle (step 0 0 ∷ []) (0 ∷ 0 ∷ []) ≡ true }
     ensures of_no_steps { is_circle (step 0 0 ∷ []) [] ≡ false }
     ensures no_such_step { is_circle (step 0 0 ∷ []) (1 ∷ []) ≡ false }
+{}
+
+/// Steps that lead on from the first place.
+pub fn steps_that_lead_on()
+    ensures by_none { leads_between 1 [] [] 0 ≡ true }
+    ensures by_one { leads_between 2 (step 0 1 ∷ []) (0 ∷ []) 1 ≡ true }
+    ensures by_two { leads_between 3 (step 1 2 ∷ step 0 1 ∷ []) (1 ∷ 0 ∷ []) 2 ≡ true }
+    ensures around { leads_between 2 (step 0 0 ∷ step 0 1 ∷ []) (0 ∷ 0 ∷ 1 ∷ []) 1 ≡ true }
+    ensures from_another { leads_between 3 (step 1 2 ∷ []) (0 ∷ []) 2 ≡ false }
+    ensures to_another { leads_between 3 (step 0 1 ∷ []) (0 ∷ []) 2 ≡ false }
+    ensures by_no_place { leads_between 2 (step 0 5 ∷ step 5 1 ∷ []) (0 ∷ 1 ∷ []) 1 ≡ false }
+    ensures no_such_step { leads_between 2 (step 0 1 ∷ []) (1 ∷ []) 1 ≡ false }
 {}

@@ -30,7 +30,7 @@ in_two_steps xs ys first second third none one two =
     ap object (two ∙ ap (with_all ys) (one ∙ ap (with_all xs) none) ∙ sym (with_all-append xs ys no_members))
 
 pub found_as : (asked : Asked) (at : Option (ℕ × Spot)) (answer : Result WorldFound Fault) (f : Found) (r : Resolver) (d : Data) → IsFoundBy asked.world at answer f r
-    → d ≡ object_of (found_members asked f.location (view f.value.now) f.draft ++ resolver_members r) → IsFound asked at answer (Ok d)
+    → d ≡ object_of (found_members asked f.location (view f.value.now) f.draft ++ resolver_members asked.kept r) → IsFound asked at answer (Ok d)
 found_as asked at answer f r d (is, is_at_path, there) whole = subst (λ a. IsFound asked at a (Ok d)) (sym is) (f.location, there, is_at_path, whole)
 
 pub gives_then : {A : Type 0} (read : Result A Data) (x : A) (may : A → Result Data Data → Type 0) (result : Result Value (Stop Value)) → read ≡ Ok x → Gives (may x) result → Gives (Then read may) result

@@ -12,3 +12,4 @@ pub mod OpeningReads
 pub mod PlacesTold
 pub mod Scopes
 pub mod OnLiterals
+pub mod Choosing

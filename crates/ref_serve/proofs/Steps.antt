@@ -102,14 +102,14 @@ pub result_found : (asked : Asked) (at here : Option (ℕ × Spot)) (answer : Re
 result_found asked at here answer f d there is given = subst (λ p. IsFollowed asked p answer (Ok d)) (sym there) (subst (λ a. IsFollowed asked here a (Ok d)) (sym is) given)
 
 pub object_at : (asked : Asked) (last : Option Found) (x : Found) (r : Resolver) (result : Result Value AllocError) → last ≡ Some x → IfSome last (λ y. IsValueAt asked.world y.location (view y.value.now))
-    → IfOk result (λ d. view d ≡ object_of (found_members asked x.location (view x.value.now) x.draft ++ resolver_members r))
+    → IfOk result (λ d. view d ≡ object_of (found_members asked x.location (view x.value.now) x.draft ++ resolver_members asked.kept r))
     → IfOk result (λ d. IsFollowedTo asked (option_map (λ y. location_view y.location) last) (option_map (λ y. (view y.value.now, y.draft)) last) r (view d))
 object_at asked last x r (Ok d) is placed given =
     subst (λ o. IsFollowedTo asked (option_map (λ y. location_view y.location) o) (option_map (λ y. (view y.value.now, y.draft)) o) r (view d)) (sym is)
     (x.location, refl, subst (λ o. IfSome o (λ y. IsValueAt asked.world y.location (view y.value.now))) is placed, given)
 object_at asked last x r (Err e) is placed given = tt
 
-pub object_without : (asked : Asked) (last : Option Found) (r : Resolver) (result : Result Value AllocError) → last ≡ None → IfOk result (λ d. view d ≡ object_of (resolver_members r))
+pub object_without : (asked : Asked) (last : Option Found) (r : Resolver) (result : Result Value AllocError) → last ≡ None → IfOk result (λ d. view d ≡ object_of (resolver_members asked.kept r))
     → IfOk result (λ d. IsFollowedTo asked (option_map (λ y. location_view y.location) last) (option_map (λ y. (view y.value.now, y.draft)) last) r (view d))
 object_without asked last r (Ok d) is given = subst (λ o. IsFollowedTo asked (option_map (λ y. location_view y.location) o) (option_map (λ y. (view y.value.now, y.draft)) o) r (view d)) (sym is) given
 object_without asked last r (Err e) is given = tt

@@ -3,29 +3,30 @@ use Rattle.std.specs.Prelude.{◌≡◌, ◌≤◌, length, ℕ, List, [], codes
 use Rattle.serde_json.specs.Data.{Data}
 use Rattle.serde_json.specs.Find.{get}
 use Rattle.ref_calls.specs.declared.call.Call.{Call}
-use Rattle.ref_calls.specs.declared.call.Call.TheVariants.{Hello, Uri, DraftOf, Yaml, Faults, Open, Lookup, Recursive, Enter, Follow, Places, References, Dangling, Vocabularies, Bundle, Close}
+use Rattle.ref_calls.specs.declared.call.Call.TheVariants.{Hello, Uri, DraftOf, Yaml, Faults, Open, Lookup, Recursive, Enter, Follow, Scope, Places, Survey, References, Dangling, Vocabularies, Bundle, Close}
 use Rattle.ref_calls.specs.Objects.{object_of, answer_of, IsLineOf}
 use Rattle.ref_calls.specs.Errors.{not_json}
 use Rattle.ref_calls.specs.Why.{why}
 use Rattle.ref_json.specs.Text.{tree_of}
 use Rattle.ref_calls.specs.Calls.{call_of}
 use Rattle.ref_definitions.specs.Results.{◌>>=◌}
-use Rattle.ref_serve.specs.State.{OpenRegistry, Registries, registry_under, without_registry}
+use Rattle.ref_serve.specs.State.{OpenRegistry, Registries, scopes_at, registry_under, without_registry, with_scope}
 use Rattle.ref_serve.specs.Opening.{opening_of, IsOpenedAs}
-use Rattle.ref_serve.specs.Results.{IsLookup, IsRecursiveCall, enter_result}
+use Rattle.ref_serve.specs.Results.{IsLookup, IsRecursiveCall, enter_result, keeping_of, kept_object}
 use Rattle.ref_serve.specs.Following.{IsFollow}
 use Rattle.ref_serve.specs.About.{hello_result, uri_result, draft_result}
 use Rattle.ref_serve.specs.Faults.{faults_result}
 use Rattle.ref_serve.specs.Where.{placed}
 use Rattle.ref_calls.specs.Yaml.{IsCallRead, IsYaml}
 use Rattle.ref_serve.specs.References.{IsReferences}
+use Rattle.ref_serve.specs.Surveys.{IsSurveyed}
 use Rattle.ref_serve.specs.Listings.{places_result, dangling_result, vocabularies_result, IsBundle}
 
 -- `faults`, whose texts of YAML are read first
 unfoldable pub IsFaults : Data → Result Data Data → Type 0
 IsFaults d outcome = (read : Result Data Data) × IsCallRead d read × (outcome ≡ (read >>= faults_result))
 
--- the result of a call that changes no registry, or its error; of `open` and `close` see `IsReply`
+-- the result of a call that changes no registry, or its error; of `open`, `scope` and `close` see `IsReply`
 abbrev pub IsResult : Call → Registries → Data → Result Data Data → Type 0
 IsResult Hello state d outcome = outcome ≡ Ok hello_result
 IsResult Uri state d outcome = outcome ≡ uri_result d
@@ -37,11 +38,13 @@ IsResult Recursive state d outcome = IsRecursiveCall state d outcome
 IsResult Enter state d outcome = outcome ≡ enter_result state d
 IsResult Follow state d outcome = IsFollow state d outcome
 IsResult Places state d outcome = outcome ≡ places_result state d
+IsResult Survey state d outcome = IsSurveyed state d outcome
 IsResult References state d outcome = IsReferences state d outcome
 IsResult Dangling state d outcome = outcome ≡ dangling_result state d
 IsResult Vocabularies state d outcome = outcome ≡ vocabularies_result state d
 IsResult Bundle state d outcome = IsBundle state d outcome
 IsResult Open state d outcome = Unit {0}
+IsResult Scope state d outcome = Unit {0}
 IsResult Close state d outcome = Unit {0}
 
 -- a registry is opened after the others, or there is an error, and nothing changes
@@ -72,6 +75,14 @@ unfoldable pub IsOpen : Registries → Data → Registries → Result Data Data 
 IsOpen state d next outcome =
     (opened : Result Data Data) × IsOpening state d next opened × IsPlaced d opened outcome
 
+-- a scope is kept after the others of its registry, and the result is its number
+abbrev pub IsKept : Registries → Registries → Result (ℕ × List (List ℕ)) Data → Result Data Data
+    → Type 0
+IsKept state next (Ok keeping) outcome =
+    (outcome ≡ Ok (kept_object (length (scopes_at state keeping.0))))
+    × (next ≡ with_scope state keeping.0 keeping.1)
+IsKept state next (Err error) outcome = (outcome ≡ Err error) × (next ≡ state)
+
 -- a registry is closed, and the result has no members
 abbrev pub IsClosed : Registries → Registries → ℕ → Result Data Data → Type 0
 IsClosed state next number outcome =
@@ -85,6 +96,7 @@ IsClose state next (Err error) outcome = (outcome ≡ Err error) × (next ≡ st
 
 abbrev pub IsReply : Call → Registries → Data → Registries → Result Data Data → Type 0
 IsReply Open state d next outcome = IsOpen state d next outcome
+IsReply Scope state d next outcome = IsKept state next (keeping_of state d) outcome
 IsReply Close state d next outcome =
     IsClose state next (registry_under state d (codes "registry")) outcome
 IsReply call state d next outcome = IsResult call state d outcome × (next ≡ state)

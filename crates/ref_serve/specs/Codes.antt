@@ -7,5 +7,8 @@ use Rattle.ref_index.specs.Codes.{world_code}
 abbrev pub open_code : Coded (World × List ℕ)
 open_code = coded× world_code (coded_list coded_ℕ)
 
-abbrev pub state_code : Coded (List (Option (World × List ℕ)))
-state_code = coded_list (coded_option open_code)
+abbrev pub slot_code : Coded ((World × List ℕ) × List (List (List ℕ)))
+slot_code = coded× open_code (coded_list (coded_list (coded_list coded_ℕ)))
+
+abbrev pub state_code : Coded (List (Option ((World × List ℕ) × List (List (List ℕ)))))
+state_code = coded_list (coded_option slot_code)

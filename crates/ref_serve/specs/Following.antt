@@ -16,7 +16,7 @@ use Rattle.ref_calls.specs.Objects.{object_of, whole}
 use Rattle.ref_calls.specs.Errors.{field_error, fault_members, at_index}
 use Rattle.ref_calls.specs.Calls.{required_member, items_in, each_item, draft_of}
 use Rattle.ref_serve.specs.State.{Registries}
-use Rattle.ref_serve.specs.Results.{Then, Asked, asked_of, resolver_of, resolver_members, IsFoundAt}
+use Rattle.ref_serve.specs.Results.{Then, Asked, Start, asked_of, start_of, resolver_members, IsFoundAt}
 
 -- ---- what is asked
 
@@ -63,7 +63,7 @@ place_after world at f (step ∷ steps) =
 -- without a value these alone
 abbrev pub IsFollowedTo : Asked → Option (ℕ × Spot) → Option (Data × Draft) → Resolver → Data
     → Type 0
-IsFollowedTo asked at None r d = d ≡ object_of (resolver_members r)
+IsFollowedTo asked at None r d = d ≡ object_of (resolver_members asked.kept r)
 IsFollowedTo asked at (Some last) r d =
     IsFoundAt asked at (record { value = last.0; draft = last.1; resolver = r }) d
 
@@ -80,18 +80,18 @@ IsFollowed asked at (Ok f) (Err e) = ⊥
 IsFollowed asked at (Err fault) (Ok d) = ⊥
 IsFollowed asked at (Err fault) (Err e) = e ≡ object_of (step_members fault.0 fault.1)
 
--- the steps one after another, from the base and the scope of the call
-abbrev pub IsFollowedFrom : Asked → Resolver → List Step → Result Data Data → Type 0
-IsFollowedFrom asked r steps outcome =
-    IsFollowed asked (place_after asked.world None (start_at r) steps)
-    (followed_from asked.world 0 (start_at r) steps) outcome
+-- the steps one after another, from where the call is
+abbrev pub IsFollowedFrom : Start → List Step → Result Data Data → Type 0
+IsFollowedFrom s steps outcome =
+    IsFollowed s.asked (place_after s.asked.world None (start_at s.resolver) steps)
+    (followed_from s.asked.world 0 (start_at s.resolver) steps) outcome
 
 -- the same of a call whose draft may not be readable, nor its steps
-abbrev pub IsFollowedBy : Data → Asked → Resolver → Result Data Data → Type 0
-IsFollowedBy d asked r outcome =
-    Then (draft_of d) (λ draft. Then (steps_of draft d) (IsFollowedFrom asked r)) outcome
+abbrev pub IsFollowedBy : Data → Start → Result Data Data → Type 0
+IsFollowedBy d s outcome =
+    Then (draft_of d) (λ draft. Then (steps_of draft d) (IsFollowedFrom s)) outcome
 
 -- `follow`
 unfoldable pub IsFollow : Registries → Data → Result Data Data → Type 0
 IsFollow state d outcome =
-    Then (asked_of state d) (λ asked. Then (resolver_of d) (IsFollowedBy d asked)) outcome
+    Then (asked_of state d) (λ asked. Then (start_of asked d) (IsFollowedBy d)) outcome

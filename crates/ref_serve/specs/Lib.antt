@@ -4,11 +4,13 @@ pub mod Rows
 pub mod Results
 pub mod Opening
 pub mod About
-pub mod References
+pub mod Scopes
 pub mod Listings
+pub mod Surveys
+pub mod Candidates
+pub mod References
 pub mod Faults
 pub mod Where
 pub mod Following
-pub mod Scopes
 pub mod Answering
 pub mod inner

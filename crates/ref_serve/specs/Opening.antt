@@ -131,7 +131,7 @@ below_open state layers = record { layers = layers; registries = state; members 
 abbrev pub below_meta : Registries → World → Below
 below_meta state world = record {
   layers = above_registry (length state, (world, []));
-  registries = state ++ Some (world, []) ∷ [];
+  registries = state ++ Some ((world, []), []) ∷ [];
   members = (codes "parent", whole (length state)) ∷ [];
 }
 
@@ -145,7 +145,7 @@ IsOpenedIn o below state next (Ok world) outcome =
     (opened_members (length below.registries) world
     (map uri_given (map (λ d. d.0) o.documents))
     ++ below.members)))
-    × (next ≡ below.registries ++ Some (world, below.layers.1) ∷ [])
+    × (next ≡ below.registries ++ Some ((world, below.layers.1), []) ∷ [])
 IsOpenedIn o below state next (Err fault) outcome =
     (outcome ≡ Err (fault_error fault)) × (next ≡ state)
 

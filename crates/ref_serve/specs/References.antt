@@ -1,5 +1,5 @@
 -- The result of `references`.
-use Rattle.std.specs.Prelude.{◌≡◌, ℕ, Bool, true, List, [], ◌∷◌, ◌++◌, ◌==◌, map, filter, flat_map, codes, Option, None, Some, option_map, Result, Ok, Err}
+use Rattle.std.specs.Prelude.{◌≡◌, ℕ, Bool, true, List, [], ◌∷◌, ◌++◌, ◌==◌, map, filter, flat_map, codes, if◌then◌else◌, Option, None, Some, option_map, Result, Ok, Err}
 use Rattle.std.specs.List.{AllZip}
 use Rattle.std.specs.Option.{option_to_list}
 use Rattle.serde_json.specs.Data.{Data, string}
@@ -12,11 +12,13 @@ use Rattle.ref_findings.specs.Places.{dynamic_keyword}
 use Rattle.ref_definitions.specs.Results.{◌>>=◌}
 use Rattle.ref_definitions.specs.World.{World, local_documents}
 use Rattle.ref_definitions.specs.Listing.{Listed, local_places}
+use Rattle.ref_definitions.specs.Lookup.{Resolver, lookup}
 use Rattle.ref_calls.specs.Objects.{object_of, list_of}
-use Rattle.ref_calls.specs.Calls.{number_in}
+use Rattle.ref_calls.specs.Calls.{number_in, is_set}
 use Rattle.ref_serve.specs.State.{Registries}
 use Rattle.ref_serve.specs.Results.{Then, Asked, asked_of, IsLookedUp}
 use Rattle.ref_serve.specs.Listings.{site_members}
+use Rattle.ref_serve.specs.Candidates.{choice_at, candidate_members}
 
 -- a reference: the place that has it, the base there, its keyword, and its text
 pub record Reference : Type 0 where
@@ -61,18 +63,29 @@ abbrev pub target_member : Result Data Data → List (List ℕ × Data)
 target_member (Ok target) = (codes "target", target) ∷ []
 target_member (Err error) = (codes "error", error) ∷ []
 
-abbrev pub reference_object : Reference → Result Data Data → Data
-reference_object r outcome =
+-- from where a reference is looked up: its base, with an empty dynamic scope
+abbrev pub referring_resolver : Reference → Resolver
+referring_resolver r = record { base = r.base; scope = [] }
+
+-- the places that it may lead to by the scope, where it is dynamic and they are asked for
+abbrev pub asked_candidates : Asked → Reference → List (List ℕ × Data)
+asked_candidates asked r =
+    if asked.candidates then
+    candidate_members (local_places (local_documents asked.world))
+    (choice_at r.keyword r.text (lookup asked.world (referring_resolver r) r.text))
+    else []
+
+abbrev pub reference_object : Asked → Reference → Result Data Data → Data
+reference_object asked r outcome =
     object_of
     (site_members r.document r.path ++ (codes "keyword", string r.keyword)
-    ∷ (codes "reference", string r.text) ∷ target_member outcome)
+    ∷ (codes "reference", string r.text) ∷ target_member outcome ++ asked_candidates asked r)
 
--- the object of a reference, which is looked up from the base with an empty dynamic scope
+-- the object of a reference
 abbrev pub IsReferred : Asked → Reference → Data → Type 0
 IsReferred asked r d =
-    (outcome : Result Data Data)
-    × IsLookedUp asked (record { base = r.base; scope = [] }) r.text outcome
-    × (d ≡ reference_object r outcome)
+    (outcome : Result Data Data) × IsLookedUp asked (referring_resolver r) r.text outcome
+    × (d ≡ reference_object asked r outcome)
 
 -- each of them, in order
 abbrev pub AreReferred : Asked → Option ℕ → Result Data Data → Type 0
@@ -85,8 +98,14 @@ abbrev pub document_at : Option Data → Result (Option ℕ) Data
 document_at None = Ok None
 document_at (Some d) = number_in (codes "document") d >>= λ number. Ok (Some number)
 
+-- what is asked, with the candidates of dynamic references where a call asks for them
+abbrev pub with_candidates : Asked → Bool → Asked
+with_candidates asked candidates = record asked { candidates = candidates }
+
 -- `references`
 unfoldable pub IsReferences : Registries → Data → Result Data Data → Type 0
 IsReferences state d outcome =
     Then (asked_of state d)
-    (λ asked. Then (document_at (get (codes "document") d)) (AreReferred asked)) outcome
+    (λ asked. Then (document_at (get (codes "document") d))
+    (λ document. Then (is_set (codes "candidates") d)
+    (λ candidates. AreReferred (with_candidates asked candidates) document))) outcome

@@ -35,3 +35,10 @@ PlaceIsTheSame =
     → is_pointer (fragment_part reference) ≡ true
     → lookup_location world (record { base = base; scope = inner ∷ more }) reference
     ≡ lookup_location world (record { base = base; scope = inner ∷ [] }) reference
+
+-- whatever is found has the scope that it is looked up from at its end
+abbrev pub FoundEndsWithItsScope : Type 0
+FoundEndsWithItsScope =
+    (world : World) (r : Resolver) (reference : List ℕ) (found : Found)
+    → lookup world r reference ≡ Ok found
+    → (front : List (List ℕ)) × (found.resolver.scope ≡ front ++ r.scope)

@@ -5,7 +5,7 @@ ghost use Rattle.ref_calls.specs.Objects.{answer_of, IsLineOf};
 ghost use Rattle.ref_calls.specs.Errors.{not_json as error_of};
 ghost use Rattle.ref_calls.specs.Why.{why as reason_of};
 ghost use Rattle.ref_calls.specs.Calls.{call_of};
-ghost use Rattle.ref_calls.specs.declared.call.Call.TheVariants.{Faults, Open as Opening};
+ghost use Rattle.ref_calls.specs.declared.call.Call.TheVariants.{Faults, Scope, Open as Opening};
 ghost use Rattle.ref_json.specs.Text.{tree_of as tree_in};
 ghost use Rattle.ref_serve.specs.Answering as spec;
 ghost use Rattle.ref_calls.specs.Outcome.{Gives};
@@ -16,13 +16,15 @@ use crate::bundling::bundle_document;
 use crate::entering::enter;
 use crate::faults::faults_call;
 use crate::following::follow;
+use crate::keeping::{Keeping, keeping_of, kept_object};
 use crate::listing::{dangling_references, places};
 use crate::looking::{lookup, recursive};
 use crate::opening::open_call;
 use crate::placing::placed_stop;
 use crate::references::references;
 use crate::registry::registry_of;
-use crate::state::{Open, State};
+use crate::state::{Slot, State};
+use crate::surveying::survey_call;
 use crate::vocabularies::vocabularies;
 use ref_calls::answer::{error_text, id_of, text_of};
 use ref_calls::call::{Call, call_of};
@@ -30,16 +32,26 @@ use ref_calls::fault::{not_json, plain_error};
 use ref_calls::why::why;
 use ref_calls::yaml::yaml;
 use ref_json::{Stop, tree_of};
+use ref_parts::list::List;
 use ref_streams::Service;
+use ref_uri::Uri;
 use serde_json::{Map, Value};
 use std::alloc::{AllocError, Global};
+
+// How a call changes the registries.
+#[derive(Drop)]
+enum Change {
+    Same,
+    Opened(Vec<Option<Slot>>),
+    Closed(usize),
+    Kept(usize, List<Uri>),
+}
 
 // What a call gives: its result, and how the registries change.
 #[derive(Drop)]
 struct Reply {
     result: Value,
-    opened: Vec<Option<Open>>,
-    closed: Option<usize>,
+    change: Change,
 }
 
 impl Service for State {
@@ -90,13 +102,9 @@ fn answer_tree(
     let id = id_of(&tree)?;
     match reply_to(alloc, state, line, tree) {
         Ok(reply) => {
-            let Reply {
-                result,
-                opened,
-                closed,
-            } = reply;
+            let Reply { result, change } = reply;
             let text = text_of(alloc, id, "result", result)?;
-            change(state, opened, closed)?;
+            changed(state, change)?;
             Ok(text)
         }
         Err(Stop::Because(error)) => text_of(alloc, id, "error", error),
@@ -104,19 +112,20 @@ fn answer_tree(
     }
 }
 
-fn change(
-    state: &mut State,
-    opened: Vec<Option<Open>>,
-    closed: Option<usize>,
-) -> Result<(), AllocError>
-    ensures changed { OnOk result (state.new ≡ registries_after state.old opened.items closed) }
+// Changes the registries. Where there is no memory for that, nothing changes.
+fn changed(state: &mut State, change: Change) -> Result<(), AllocError>
+    ensures changed { OnOk result (state.new ≡ registries_after state.old change) }
     ensures refused { OnErr result (state.new ≡ state.old) }
 {
-    state.add(opened)?;
-    if let Some(number) = closed {
-        state.close(number);
+    match change {
+        Change::Same => Ok(()),
+        Change::Opened(opened) => state.add(opened),
+        Change::Closed(number) => {
+            state.close(number);
+            Ok(())
+        }
+        Change::Kept(number, uris) => state.keep(number, uris),
     }
-    Ok(())
 }
 
 // The reply to `open`, whose errors have their place in the documents of the line.
@@ -133,8 +142,7 @@ fn opened_reply(
     match open_call(alloc, state, tree) {
         Ok(opened) => Ok(Reply {
             result: opened.result,
-            opened: opened.registries,
-            closed: None,
+            change: Change::Opened(opened.registries),
         }),
         Err(Stop::Because(error)) => Err(placed_stop(alloc, line, error)),
         Err(Stop::Memory) => Err(Stop::Memory),
@@ -159,13 +167,25 @@ fn reply_to(
             let (number, _open) = registry_of(alloc, state, &tree)?;
             Ok(Reply {
                 result: Value::Object(Map::new(alloc)),
-                opened: Vec::new(alloc),
-                closed: Some(number),
+                change: Change::Closed(number),
             })
         }
+        Call::Scope => kept_reply(alloc, state, &tree),
         Call::Faults => faulty(alloc, state, tree),
         call => unchanged(alloc, state, call, &tree),
     }
+}
+
+// The reply to `scope`.
+fn kept_reply(alloc: Global, state: &State, tree: &Value) -> Result<Reply, Stop<Value>>
+    ensures { Replies (spec.IsReply Scope state.now (view tree.now)) state.now result }
+{
+    let Keeping { number, uris } = keeping_of(alloc, state, tree)?;
+    let result = kept_object(alloc, state, number)?;
+    Ok(Reply {
+        result,
+        change: Change::Kept(number, uris),
+    })
 }
 
 // The reply to `faults`, which changes no registry and takes the documents out of the call.
@@ -175,8 +195,7 @@ fn faulty(alloc: Global, state: &State, tree: Value) -> Result<Reply, Stop<Value
     match faults_call(alloc, tree) {
         Ok(result) => Ok(Reply {
             result,
-            opened: Vec::new(alloc),
-            closed: None,
+            change: Change::Same,
         }),
         Err(stop) => Err(stop),
     }
@@ -189,8 +208,7 @@ fn unchanged(alloc: Global, state: &State, call: Call, tree: &Value) -> Result<R
     match result_of(alloc, state, call, tree) {
         Ok(result) => Ok(Reply {
             result,
-            opened: Vec::new(alloc),
-            closed: None,
+            change: Change::Same,
         }),
         Err(stop) => Err(stop),
     }
@@ -210,10 +228,13 @@ fn result_of(alloc: Global, state: &State, call: Call, tree: &Value) -> Result<V
         Call::Enter => enter(alloc, state, tree),
         Call::Follow => follow(alloc, state, tree),
         Call::Places => places(alloc, state, tree),
+        Call::Survey => survey_call(alloc, state, tree),
         Call::References => references(alloc, state, tree),
         Call::Dangling => dangling_references(alloc, state, tree),
         Call::Vocabularies => vocabularies(alloc, state, tree),
         Call::Bundle => bundle_document(alloc, state, tree),
-        Call::Faults | Call::Open | Call::Close => Err(plain_error(alloc, "UnknownCall", "")),
+        Call::Faults | Call::Open | Call::Scope | Call::Close => {
+            Err(plain_error(alloc, "UnknownCall", ""))
+        }
     }
 }

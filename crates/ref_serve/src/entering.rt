@@ -1,21 +1,22 @@
 //! `enter`.
-ghost use Rattle.std.specs.Prelude.{◌≡◌, IfOk};
+ghost use Rattle.std.specs.Prelude.{◌≡◌, option_map, IfOk};
 ghost use Rattle.serde_json.specs.View.{view};
 ghost use Rattle.ref_draft.specs.Schema.{detect};
 ghost use Rattle.ref_definitions.specs.Fault.{as_invalid_uri};
 ghost use Rattle.ref_definitions.specs.Lookup.{in_subresource};
 ghost use Rattle.ref_error.specs.Errors.{Gives};
 ghost use Rattle.ref_resolver.specs.Resolving.{resolver_of as resolver_view, world_of};
+ghost use Rattle.ref_calls.specs.Given.{kept_of};
 ghost use Rattle.ref_calls.specs.Objects.{object_of};
 ghost use Rattle.ref_calls.specs.Outcome.{Answers};
 ghost use Rattle.ref_serve.specs.Results as results;
 
-use crate::asked::resolver_of;
+use crate::asked::{asked_of, start_of};
 use crate::place::put_resolver;
-use crate::registry::registry_of;
 use crate::state::State;
 use ref_calls::fault::fault_error;
 use ref_calls::field::{draft_of, schema_of};
+use ref_calls::scope::Kept;
 use ref_json::Stop;
 use referencing::{Draft, Error, Resolver};
 use serde_json::{Map, Value};
@@ -37,13 +38,19 @@ pub fn entered<'s>(
     resolver.in_subresource(alloc, resource)
 }
 
-/// The object with the base and the dynamic scope.
-pub fn resolver_object(alloc: Global, resolver: &Resolver<'_>) -> Result<Value, AllocError>
+/// The object with the base and the dynamic scope, of which a kept one may be the end.
+pub fn resolver_object(
+    alloc: Global,
+    kept: Option<Kept<'_>>,
+    resolver: &Resolver<'_>,
+) -> Result<Value, AllocError>
     ensures { IfOk result
-        (λ d. view d ≡ object_of (results.resolver_members (resolver_view resolver.now))) }
+        (λ d. view d
+        ≡ object_of
+        (results.resolver_members (option_map kept_of kept.entry) (resolver_view resolver.now))) }
 {
     let mut members = Map::new(alloc);
-    put_resolver(alloc, &mut members, resolver)?;
+    put_resolver(alloc, &mut members, kept, resolver)?;
     Ok(Value::Object(members))
 }
 
@@ -52,12 +59,12 @@ pub fn resolver_object(alloc: Global, resolver: &Resolver<'_>) -> Result<Value, 
 pub fn enter(alloc: Global, state: &State, tree: &Value) -> Result<Value, Stop<Value>>
     ensures { Answers view result (results.enter_result state.now (view tree.now)) }
 {
-    let (_number, open) = registry_of(alloc, state, tree)?;
-    let resolver = resolver_of(alloc, open, tree)?;
+    let asked = asked_of(alloc, state, tree)?;
+    let start = start_of(alloc, asked, tree)?;
     let schema = schema_of(alloc, tree)?;
     let draft = draft_of(alloc, tree)?;
-    match entered(alloc, &resolver, draft, schema) {
-        Ok(resolver) => Ok(resolver_object(alloc, &resolver)?),
+    match entered(alloc, &start.resolver, draft, schema) {
+        Ok(resolver) => Ok(resolver_object(alloc, start.asked.kept, &resolver)?),
         Err(error) => Err(fault_error(alloc, &error)),
     }
 }

@@ -5,15 +5,19 @@
 ghost use Rattle.std.specs.Prelude.{◌≡◌, [], ◌∷◌, true, false, codes, Some, None, Ok, Err, option_and_then};
 ghost use Rattle.serde_json.specs.Data.{null, array, no_items, item};
 ghost use Rattle.ref_draft.specs.Anchors.{Plain, Dynamic};
-ghost use Rattle.ref_draft.specs.declared.draft.Draft.TheVariants.{Draft202012};
+ghost use Rattle.ref_draft.specs.declared.draft.Draft.TheVariants.{Draft201909, Draft202012};
 ghost use Rattle.ref_definitions.specs.Fault.{NoSuchAnchor, UnknownSpecification, not_retrieved};
 ghost use Rattle.ref_findings.specs.Findings.{MissingDocument, LeadsNowhere, UnknownDialect, ListOfItems};
 ghost use Rattle.std.specs.Result.{result_ok};
 ghost use Rattle.serde_json.specs.Find.{get};
-ghost use Rattle.ref_definitions.specs.Rows.{text, whole_number, empty, one, two, three, list, pair, at};
+ghost use Rattle.ref_definitions.specs.Rows.{yes, text, whole_number, empty, one, two, three, list, pair, at};
 ghost use Rattle.ref_calls.specs.Rows.{told};
-ghost use Rattle.ref_serve.specs.State.{open_at, without_registry, layer_number, registry_under};
-ghost use Rattle.ref_serve.specs.Results.{enter_result, listed_outcome, question_in};
+ghost use Rattle.ref_serve.specs.State.{open_at, scopes_at, without_registry, with_scope, layer_number, registry_under};
+ghost use Rattle.ref_serve.specs.Results.{enter_result, keeping_of, kept_object, listed_outcome, question_in, start_from};
+ghost use Rattle.ref_serve.specs.Candidates.{Named, Recursive, choice_of, candidates};
+ghost use Rattle.ref_calls.specs.Scopes.{own_scope};
+ghost use Rattle.ref_definitions.specs.World.{local_documents};
+ghost use Rattle.ref_definitions.specs.Listing.{local_places};
 ghost use Rattle.ref_serve.specs.About.{hello_result, uri_result, draft_result};
 ghost use Rattle.ref_serve.specs.Opening.{uri_given, number_given};
 ghost use Rattle.ref_serve.specs.Listings.{identifier_member, anchor_member};
@@ -83,7 +87,18 @@ pub fn items()
         ≡ Ok (from_base "http://d/", codes "#c") }
     ensures scope { question_in (from_base "http://a/b") 0
         (triple (text "http://d/") (list (text "http://e/")) (text "#c"))
-        ≡ Ok (record { base = codes "http://d/"; scope = codes "http://e/" ∷ [] }, codes "#c") }
+        ≡ Ok (
+          start_from (from_base "http://a/b").asked (codes "http://d/")
+              (own_scope (codes "http://e/" ∷ [])),
+          codes "#c",
+        ) }
+    ensures kept_scope { question_in (from_base "http://a/b") 0
+        (triple (text "http://d/") (whole_number 0) (text "#c"))
+        ≡ Ok (
+          start_from (from_base "http://a/b").asked (codes "http://d/")
+              (record { uris = codes "http://e/" ∷ []; kept = Some (0, codes "http://e/" ∷ []) }),
+          codes "#c",
+        ) }
     ensures two_alone { told "field"
         (question_in (from_base "http://a/b") 0 (pair (text "http://d/") (text "#c")))
         ≡ Some (text "reference") }
@@ -93,6 +108,68 @@ pub fn items()
         (question_in (from_base "http://a/b") 0
         (triple (text "d e") (array no_items) (text "#c")))
         ≡ Some (text "base") }
+{}
+
+/// The scopes that are kept for registries.
+pub fn scopes()
+    ensures one { scopes_at (with_scope (opened "http://a/r" empty) 0 (codes "u:a" ∷ [])) 0
+        ≡ (codes "u:a" ∷ []) ∷ [] }
+    ensures next { scopes_at (with_scope (with_scope (opened "http://a/r" empty) 0 []) 0
+        (codes "u:a" ∷ [])) 0
+        ≡ [] ∷ (codes "u:a" ∷ []) ∷ [] }
+    ensures of_a_closed_registry { with_scope (opened "http://a/r" empty) 1 (codes "u:a" ∷ [])
+        ≡ opened "http://a/r" empty }
+    ensures registry_stays { open_at (with_scope (opened "http://a/r" empty) 0 []) 0
+        ≡ Some (registry "http://a/r" empty) }
+    ensures asked { keeping_of (opened "http://a/r" empty)
+        (two "registry" (whole_number 0) "scope" (list (text "u:a")))
+        ≡ Ok (0, codes "u:a" ∷ []) }
+    ensures behind_another { keeping_of (with_scope (opened "http://a/r" empty) 0 (codes "u:a" ∷ []))
+        (two "registry" (whole_number 0) "scope" (pair (text "u:b") (whole_number 0)))
+        ≡ Ok (0, codes "u:b" ∷ codes "u:a" ∷ []) }
+    ensures not_kept { told "name"
+        (keeping_of (opened "http://a/r" empty)
+        (two "registry" (whole_number 0) "scope" (whole_number 0)))
+        ≡ Some (text "UnknownScope") }
+    ensures no_scope { told "field"
+        (keeping_of (opened "http://a/r" empty) (one "registry" (whole_number 0)))
+        ≡ Some (text "scope") }
+    ensures answered { kept_object 3 ≡ one "scope" (whole_number 3) }
+{}
+
+/// Where dynamic references may lead.
+pub fn chosen()
+    ensures dynamic { choice_of (codes "$dynamicRef") (codes "u:a#n") Draft202012
+        (one "$dynamicAnchor" (text "n"))
+        ≡ Some (Named (codes "n")) }
+    ensures plain { choice_of (codes "$dynamicRef") (codes "#n") Draft202012 (one "$anchor" (text "n"))
+        ≡ None }
+    ensures another_name { choice_of (codes "$dynamicRef") (codes "#n") Draft202012
+        (two "$anchor" (text "n") "$dynamicAnchor" (text "m"))
+        ≡ None }
+    ensures pointer { choice_of (codes "$dynamicRef") (codes "#/n") Draft202012
+        (one "$dynamicAnchor" (text "/n"))
+        ≡ None }
+    ensures other_keyword { choice_of (codes "$ref") (codes "#n") Draft202012
+        (one "$dynamicAnchor" (text "n"))
+        ≡ None }
+    ensures recursive { choice_of (codes "$recursiveRef") (codes "#") Draft201909
+        (one "$recursiveAnchor" yes)
+        ≡ Some Recursive }
+    ensures not_marked { choice_of (codes "$recursiveRef") (codes "#") Draft201909 empty ≡ None }
+    ensures candidate { candidates (Named (codes "n"))
+        (local_places (local_documents (registry "u:a" (one "$dynamicAnchor" (text "n"))).0))
+        ≡ two "document" (whole_number 0) "pointer" (text "") ∷ [] }
+    ensures no_candidate { candidates (Named (codes "m"))
+        (local_places (local_documents (registry "u:a" (one "$dynamicAnchor" (text "n"))).0))
+        ≡ [] }
+    ensures root { candidates Recursive
+        (local_places (local_documents (registry "u:a" (one "$recursiveAnchor" yes)).0))
+        ≡ two "document" (whole_number 0) "pointer" (text "") ∷ [] }
+    ensures below_a_root { candidates Recursive
+        (local_places
+        (local_documents (registry "u:a" (one "not" (one "$recursiveAnchor" yes))).0))
+        ≡ [] }
 {}
 
 /// Calls that ask no registry.

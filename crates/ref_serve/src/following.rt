@@ -14,10 +14,10 @@ ghost use Rattle.ref_calls.specs.Calls.{each_item};
 ghost use Rattle.ref_serve.specs.Following as spec;
 ghost use Rattle.ref_serve.specs.Results as results;
 ghost use Rattle.ref_calls.specs.Outcome.{Gives};
-ghost use Rattle.ref_serve.specs.inner.Seen.{asked_view, answer_at, place_at};
+ghost use Rattle.ref_serve.specs.inner.Seen.{asked_view, answer_at, place_at, started};
 ghost use Rattle.ref_serve.specs.inner.Steps.{followed_view, IsPlaced, placed_at, IsLookedUpTo, IsStepError};
 
-use crate::asked::{Asked, asked_of, resolver_of};
+use crate::asked::{Asked, Start, asked_of, start_of};
 use crate::entering::resolver_object;
 use crate::place::{Found, found_at, located_object};
 use crate::state::State;
@@ -228,7 +228,7 @@ fn followed_object(
 {
     match &followed.last {
         Some(found) => located_object(alloc, asked, found, &followed.resolver),
-        None => resolver_object(alloc, &followed.resolver),
+        None => resolver_object(alloc, asked.kept, &followed.resolver),
     }
 }
 
@@ -241,7 +241,7 @@ fn steps_result(
 ) -> Result<Value, Stop<Value>>
     requires { world_of start ≡ asked.now.registry.now.0 }
     ensures { Gives
-        (spec.IsFollowedFrom (asked_view asked.now) (resolver_view start.entry)
+        (spec.IsFollowedFrom (started asked.now (resolver_view start.entry))
         (map step_of steps.now)) result }
 {
     let followed = all_followed(alloc, start, steps)?;
@@ -254,8 +254,8 @@ pub fn follow(alloc: Global, state: &State, tree: &Value) -> Result<Value, Stop<
     ensures { Gives (spec.IsFollow state.now (view tree.now)) result }
 {
     let asked = asked_of(alloc, state, tree)?;
-    let start = resolver_of(alloc, asked.registry, tree)?;
+    let Start { asked, resolver } = start_of(alloc, asked, tree)?;
     let draft = draft_of(alloc, tree)?;
     let steps = steps_of(alloc, draft, tree)?;
-    steps_result(alloc, &asked, start, steps.as_slice())
+    steps_result(alloc, &asked, resolver, steps.as_slice())
 }

@@ -8,11 +8,13 @@ mod about;
 mod answer;
 mod asked;
 mod bundling;
+mod candidates;
 mod entering;
 pub mod examples;
 mod faults;
 mod following;
 mod given;
+mod keeping;
 pub mod laws;
 mod listing;
 mod looking;
@@ -22,10 +24,11 @@ mod placing;
 mod references;
 mod registry;
 mod state;
+mod surveying;
 mod vocabularies;
 
 pub use ref_streams::{
     Failed, Input, MemorySink, MemorySource, OUT_OF_MEMORY, Output, RunError, Service, Sink,
     Source, serve,
 };
-pub use state::{Open, State};
+pub use state::{Open, Slot, State};

@@ -10,19 +10,19 @@ ghost use Rattle.ref_serve.specs.Results as results;
 ghost use Rattle.ref_serve.specs.Results.{Then};
 ghost use Rattle.ref_calls.specs.Outcome.{Gives};
 ghost use Rattle.ref_serve.specs.inner.Giving.{IsListedAs};
-ghost use Rattle.ref_serve.specs.inner.Seen.{asked_view, answer_at, place_at};
+ghost use Rattle.ref_serve.specs.inner.Seen.{asked_view, answer_at, place_at, started, start_view};
 
-use crate::asked::{Asked, asked_of, resolver_of};
+use crate::asked::{Asked, Start, asked_of, start_from, start_of};
 use crate::place::{found_at, located_object};
 use crate::state::State;
 use ref_calls::fault::{Wrong, at_index, fault_error, field_error};
-use ref_calls::field::{items_in, required, scope_in, text_in, uri_at};
+use ref_calls::field::{items_in, required, text_in, uri_at};
 use ref_calls::members::object_of;
+use ref_calls::scope::scope_in;
 use ref_json::Stop;
 use referencing::{Error, Resolver};
 use serde_json::Value;
 use std::alloc::{AllocError, Global};
-use std::rc::Rc;
 
 // What a reference means, as an object.
 fn found_object(
@@ -84,32 +84,32 @@ fn three_of(items: &[Value]) -> Option<(&Value, &Value, &Value)>
 // What is asked by a base, a scope and a text.
 fn question_from<'s, 't>(
     alloc: Global,
-    asked: &Asked<'s>,
+    asked: Asked<'s>,
     base: &Value,
     scope: &Value,
     text: &'t Value,
-) -> Result<(Resolver<'s>, &'t str), Stop<Value>>
-    ensures question { Answers (λ q. (resolver_view q.0, q.1.now)) result
-        (results.question_of (view base.now, view scope.now, view text.now)) }
-    ensures world { IfOk result (λ q. world_of q.0 ≡ asked.now.registry.now.0) }
+) -> Result<(Start<'s>, &'t str), Stop<Value>>
+    ensures question { Answers (λ q. (start_view q.0, q.1.now)) result
+        (results.question_of (asked_view asked.entry)
+        (view base.now, view scope.now, view text.now)) }
+    ensures world { IfOk result (λ q. world_of q.0.resolver ≡ q.0.asked.registry.now.0) }
 {
     let base = uri_at(alloc, base, "base")?;
-    let scope = scope_in(alloc, scope)?;
+    let scope = scope_in(alloc, asked.scopes, scope)?;
     let text = text_in(alloc, text, "reference")?;
-    let base = Rc::new(alloc, base)?;
-    let registry = asked.registry.registry();
-    Ok((registry.resolver_from_parts(base, scope), text))
+    let start = start_from(alloc, asked, base, scope)?;
+    Ok((start, text))
 }
 
 // What the items of a list ask.
 fn question_of<'s, 't>(
     alloc: Global,
-    asked: &Asked<'s>,
+    asked: Asked<'s>,
     items: &'t [Value],
-) -> Result<(Resolver<'s>, &'t str), Stop<Value>>
-    ensures question { Answers (λ q. (resolver_view q.0, q.1.now)) result
-        (results.three_asked (items_view items.now)) }
-    ensures world { IfOk result (λ q. world_of q.0 ≡ asked.now.registry.now.0) }
+) -> Result<(Start<'s>, &'t str), Stop<Value>>
+    ensures question { Answers (λ q. (start_view q.0, q.1.now)) result
+        (results.three_asked (asked_view asked.entry) (items_view items.now)) }
+    ensures world { IfOk result (λ q. world_of q.0.resolver ≡ q.0.asked.registry.now.0) }
 {
     match three_of(items) {
         Some((base, scope, text)) => question_from(alloc, asked, base, scope, text),
@@ -126,7 +126,7 @@ fn found_listed(
 ) -> Result<Value, AllocError>
     requires { world_of resolver.now ≡ asked.now.registry.now.0 }
     ensures { IfOk result
-        (λ d. results.IsListed (asked_view asked.now) (resolver_view resolver.now, reference.now)
+        (λ d. results.IsListed (started asked.now (resolver_view resolver.now), reference.now)
         (view d)) }
 {
     match found_or_stop(alloc, asked, resolver, Some(reference)) {
@@ -146,15 +146,15 @@ fn found_as(
     requires { world_of resolver.now ≡ asked.now.registry.now.0 }
     ensures { Gives
         (Then
-        (results.question_as (resolver_view resolver.now) (as_str (view item.now))
-        (as_array (view item.now))) (IsListedAs (asked_view asked.now))) result }
+        (results.question_as (started asked.now (resolver_view resolver.now))
+        (as_str (view item.now)) (as_array (view item.now))) IsListedAs) result }
 {
     if let Some(text) = item.as_str() {
         return Ok(found_listed(alloc, asked, resolver, text)?);
     }
     let items = items_in(alloc, item, "reference")?;
-    let (own, text) = question_of(alloc, asked, items)?;
-    Ok(found_listed(alloc, asked, &own, text)?)
+    let (own, text) = question_of(alloc, *asked, items)?;
+    Ok(found_listed(alloc, &own.asked, &own.resolver, text)?)
 }
 
 // The same, with the number of the item where it asks nothing.
@@ -167,8 +167,9 @@ fn found_item(
 ) -> Result<Value, Stop<Value>>
     requires { world_of resolver.now ≡ asked.now.registry.now.0 }
     ensures { Gives
-        (Then (results.question_in (resolver_view resolver.now) index (view item.now))
-        (IsListedAs (asked_view asked.now))) result }
+        (Then
+        (results.question_in (started asked.now (resolver_view resolver.now)) index
+        (view item.now)) IsListedAs) result }
 {
     match found_as(alloc, asked, resolver, item) {
         Ok(object) => Ok(object),
@@ -185,8 +186,9 @@ fn found_items(
 ) -> Result<Value, Stop<Value>>
     requires { world_of resolver.now ≡ asked.now.registry.now.0 }
     ensures { Gives
-        (Then (each_item (results.question_in (resolver_view resolver.now)) 0 (items_view items.now))
-        (results.IsList (asked_view asked.now))) result }
+        (Then
+        (each_item (results.question_in (started asked.now (resolver_view resolver.now))) 0
+        (items_view items.now)) results.IsList) result }
 {
     let mut list = Vec::with_capacity(alloc, items.len())?;
     for (index, item) in items.iter().enumerate() {
@@ -206,7 +208,7 @@ fn referred(
 ) -> Result<Value, Stop<Value>>
     requires { world_of resolver.now ≡ asked.now.registry.now.0 }
     ensures { Gives
-        (results.IsReference (asked_view asked.now) (resolver_view resolver.now)
+        (results.IsReference (started asked.now (resolver_view resolver.now))
         (view reference.now)) result }
 {
     if let Some(text) = reference.as_str() {
@@ -224,9 +226,9 @@ pub fn lookup(alloc: Global, state: &State, tree: &Value) -> Result<Value, Stop<
     ensures { Gives (results.IsLookup state.now (view tree.now)) result }
 {
     let asked = asked_of(alloc, state, tree)?;
-    let resolver = resolver_of(alloc, asked.registry, tree)?;
+    let start = start_of(alloc, asked, tree)?;
     let reference = required(alloc, tree, "reference")?;
-    referred(alloc, &asked, &resolver, reference)
+    referred(alloc, &start.asked, &start.resolver, reference)
 }
 
 /// What a recursive reference means.
@@ -235,6 +237,6 @@ pub fn recursive(alloc: Global, state: &State, tree: &Value) -> Result<Value, St
     ensures { Gives (results.IsRecursiveCall state.now (view tree.now)) result }
 {
     let asked = asked_of(alloc, state, tree)?;
-    let resolver = resolver_of(alloc, asked.registry, tree)?;
-    found_or_stop(alloc, &asked, &resolver, None)
+    let start = start_of(alloc, asked, tree)?;
+    found_or_stop(alloc, &start.asked, &start.resolver, None)
 }

@@ -14,7 +14,7 @@ ghost use Rattle.ref_serve.specs.State.{Registries};
 
 use crate::given::{numbers_given, uris_given};
 use crate::registry::registry_in;
-use crate::state::{Open, State};
+use crate::state::{Open, Slot, State};
 use ref_calls::document::{
     Document, documents_of, documents_under, members_of, needed_documents, taken, under_uris,
 };
@@ -33,7 +33,7 @@ use std::alloc::{AllocError, Global};
 #[derive(Drop)]
 pub struct Opened {
     pub result: Value,
-    pub registries: Vec<Option<Open>>,
+    pub registries: Vec<Option<Slot>>,
 }
 
 // What a registry is to be above.
@@ -234,12 +234,12 @@ fn open_one(
         (λ opened. view opened.result
         ≡ object_of
         (spec.opened_members number added.0 (map (option_map (λ u. u)) given.now))) }
-    ensures one { IfOk result (λ opened. opened.registries.items ≡ Some added ∷ []) }
+    ensures one { IfOk result (λ opened. opened.registries.items ≡ Some (added, []) ∷ []) }
 {
     let mut members = Map::new(alloc);
     put_opened(alloc, &mut members, number, &added, given)?;
     let mut registries = Vec::with_capacity(alloc, 1)?;
-    registries.push(Some(added))?;
+    registries.push(Some(Slot::new(alloc, added)))?;
     Ok(Opened {
         result: Value::Object(members),
         registries,
@@ -261,14 +261,14 @@ fn open_both(
         (spec.opened_members (number + 1) added.0 (map (option_map (λ u. u)) given.now)
         ++ (codes "parent", whole number) ∷ [])) }
     ensures both { IfOk result
-        (λ opened. opened.registries.items ≡ Some parent ∷ Some added ∷ []) }
+        (λ opened. opened.registries.items ≡ Some (parent, []) ∷ Some (added, []) ∷ []) }
 {
     let mut members = Map::new(alloc);
     put_opened(alloc, &mut members, number + 1, &added, given)?;
     put_number(alloc, &mut members, "parent", number)?;
     let mut registries = Vec::with_capacity(alloc, 2)?;
-    registries.push(Some(parent))?;
-    registries.push(Some(added))?;
+    registries.push(Some(Slot::new(alloc, parent)))?;
+    registries.push(Some(Slot::new(alloc, added)))?;
     Ok(Opened {
         result: Value::Object(members),
         registries,

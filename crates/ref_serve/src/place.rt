@@ -7,11 +7,13 @@ ghost use Rattle.ref_paths.specs.Segment.{part_of};
 ghost use Rattle.ref_error.specs.Errors.{IsFaultOf};
 ghost use Rattle.ref_resolver.specs.Resolving.{resolver_of, world_of};
 ghost use Rattle.ref_calls.specs.Objects.{object_of, with_all, whole};
+ghost use Rattle.ref_calls.specs.Given.{kept_of};
 ghost use Rattle.ref_serve.specs.Results as results;
 ghost use Rattle.ref_serve.specs.inner.Seen.{asked_view, IsFoundBy, answer_at, place_at};
 
 use crate::asked::Asked;
-use ref_calls::members::{Members, put_number, put_text, uris_of};
+use ref_calls::members::{Members, put_number, put_text};
+use ref_calls::scope::{Kept, scope_answered};
 use referencing::{Draft, Error, JsonPointerSegment, Location, Resolver, pointer_of};
 use serde_json::{Map, Value, put};
 use std::alloc::{AllocError, Global};
@@ -33,18 +35,19 @@ pub fn put_site(
     put(members, alloc, "pointer", Value::String(pointer))
 }
 
-/// Puts the base and the dynamic scope.
+/// Puts the base and the dynamic scope, of which a kept one may be the end.
 pub fn put_resolver(
     alloc: Global,
     members: &mut Members,
+    kept: Option<Kept<'_>>,
     resolver: &Resolver<'_>,
 ) -> Result<(), AllocError>
     ensures { OnOk result (members_view members.new.entries
-        ≡ with_all (results.resolver_members (resolver_of resolver.now))
-        (members_view members.old.entries)) }
+        ≡ with_all (results.resolver_members (option_map kept_of kept.entry)
+        (resolver_of resolver.now)) (members_view members.old.entries)) }
 {
     put_text(alloc, members, "base", resolver.base_uri().as_str())?;
-    let scope = uris_of(alloc, resolver.dynamic_scope())?;
+    let scope = scope_answered(alloc, kept, resolver.dynamic_scope())?;
     put(members, alloc, "scope", scope)
 }
 
@@ -133,10 +136,10 @@ pub fn located_object(
     ensures { IfOk result (λ d. view d
         ≡ object_of (results.found_members (asked_view asked.now) found.now.location
         (view found.now.value.now) found.now.draft
-        ++ results.resolver_members (resolver_of resolver.now))) }
+        ++ results.resolver_members (asked_view asked.now).kept (resolver_of resolver.now))) }
 {
     let mut members = Map::new(alloc);
     put_found(alloc, &mut members, asked, found)?;
-    put_resolver(alloc, &mut members, resolver)?;
+    put_resolver(alloc, &mut members, asked.kept, resolver)?;
     Ok(Value::Object(members))
 }

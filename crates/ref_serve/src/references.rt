@@ -2,22 +2,24 @@
 ghost use Rattle.std.specs.Prelude.{◌≡◌, ◌∷◌, [], codes, filter, flat_map, Ok, IfOk, OnOk, option_map};
 ghost use Rattle.std.specs.Option.{option_to_list};
 ghost use Rattle.serde_json.specs.Find.{get};
-ghost use Rattle.serde_json.specs.View.{view};
+ghost use Rattle.serde_json.specs.View.{view, members_view};
 ghost use Rattle.ref_findings.specs.Places.{dynamic_keyword};
 ghost use Rattle.ref_index.specs.Listing.{listed_of};
 ghost use Rattle.ref_resolver.specs.Resolving.{resolver_of as resolver_view, world_of};
+ghost use Rattle.ref_calls.specs.Objects.{with_all};
 ghost use Rattle.ref_calls.specs.Outcome.{Answers};
 ghost use Rattle.ref_serve.specs.References as spec;
 ghost use Rattle.ref_calls.specs.Outcome.{Gives};
-ghost use Rattle.ref_serve.specs.inner.Referred.{Adds, IsTarget, reference_of};
+ghost use Rattle.ref_serve.specs.inner.Referred.{Adds, ArePlaces, IsTarget, reference_of};
 ghost use Rattle.ref_serve.specs.inner.Seen.{asked_view};
 
 use crate::asked::{Asked, asked_of};
+use crate::candidates::put_candidates;
 use crate::looking::found_or_stop;
 use crate::place::put_site;
 use crate::state::State;
-use ref_calls::field::number_in;
-use ref_calls::members::put_text;
+use ref_calls::field::{is_set, number_in};
+use ref_calls::members::{Members, put_text};
 use ref_index::meanings::text_under;
 use ref_json::Stop;
 use ref_parts::list::List;
@@ -48,8 +50,10 @@ fn dynamic_keyword(draft: Draft) -> Option<&'static str>
 fn reference_object(
     alloc: Global,
     asked: &Asked<'_>,
+    places: &[Place<'_>],
     reference: Reference<'_, '_>,
 ) -> Result<Value, AllocError>
+    requires { ArePlaces asked.now.registry.now.0 places.now }
     ensures { IfOk result
         (λ d. spec.IsReferred (asked_view asked.now) (reference_of reference.entry) (view d)) }
 {
@@ -65,7 +69,38 @@ fn reference_object(
     let resolver = resolver_at(alloc, asked, place)?;
     let (key, target) = target_of(alloc, asked, &resolver, text)?;
     put(&mut members, alloc, key, target)?;
+    put_asked(alloc, &mut members, asked, places, &resolver, reference)?;
     Ok(Value::Object(members))
+}
+
+// Puts the candidates of a reference, where they are asked for.
+fn put_asked(
+    alloc: Global,
+    members: &mut Members,
+    asked: &Asked<'_>,
+    places: &[Place<'_>],
+    resolver: &Resolver<'_>,
+    reference: Reference<'_, '_>,
+) -> Result<(), AllocError>
+    requires world { world_of resolver.now ≡ asked.now.registry.now.0 }
+    requires resolver { resolver_view resolver.now
+        ≡ spec.referring_resolver (reference_of reference) }
+    requires places { ArePlaces asked.now.registry.now.0 places.now }
+    ensures { OnOk result (members_view members.new.entries
+        ≡ with_all (spec.asked_candidates (asked_view asked.now) (reference_of reference.entry))
+        (members_view members.old.entries)) }
+{
+    if !asked.candidates {
+        return Ok(());
+    }
+    put_candidates(
+        alloc,
+        members,
+        places,
+        resolver,
+        reference.keyword,
+        reference.text,
+    )
 }
 
 // The resolver at a place, with an empty dynamic scope.
@@ -106,10 +141,12 @@ fn target_of(
 fn push_reference(
     alloc: Global,
     asked: &Asked<'_>,
+    places: &[Place<'_>],
     list: &mut Vec<Value>,
     place: &Place<'_>,
     keyword: &'static str,
 ) -> Result<(), AllocError>
+    requires { ArePlaces asked.now.registry.now.0 places.now }
     ensures { OnOk result
         (Adds (asked_view asked.now)
         (spec.reference_under (listed_of place.now) place.now.base.value keyword.now)
@@ -123,7 +160,7 @@ fn push_reference(
         keyword,
         text,
     };
-    let object = reference_object(alloc, asked, reference)?;
+    let object = reference_object(alloc, asked, places, reference)?;
     list.push(object)?;
     Ok(())
 }
@@ -132,16 +169,18 @@ fn push_reference(
 fn push_dynamic(
     alloc: Global,
     asked: &Asked<'_>,
+    places: &[Place<'_>],
     list: &mut Vec<Value>,
     place: &Place<'_>,
 ) -> Result<(), AllocError>
+    requires { ArePlaces asked.now.registry.now.0 places.now }
     ensures { OnOk result
         (Adds (asked_view asked.now)
         (flat_map (spec.reference_under (listed_of place.now) place.now.base.value)
         (option_to_list (dynamic_keyword place.now.draft))) list.old.items list.new.items) }
 {
     match dynamic_keyword(place.draft) {
-        Some(keyword) => push_reference(alloc, asked, list, place, keyword),
+        Some(keyword) => push_reference(alloc, asked, places, list, place, keyword),
         None => Ok(()),
     }
 }
@@ -150,15 +189,17 @@ fn push_dynamic(
 fn push_place(
     alloc: Global,
     asked: &Asked<'_>,
+    places: &[Place<'_>],
     list: &mut Vec<Value>,
     place: &Place<'_>,
 ) -> Result<(), AllocError>
+    requires { ArePlaces asked.now.registry.now.0 places.now }
     ensures { OnOk result
         (Adds (asked_view asked.now) (spec.references_at (listed_of place.now)) list.old.items
         list.new.items) }
 {
-    push_reference(alloc, asked, list, place, "$ref")?;
-    push_dynamic(alloc, asked, list, place)
+    push_reference(alloc, asked, places, list, place, "$ref")?;
+    push_dynamic(alloc, asked, places, list, place)
 }
 
 // Whether a place is in the document that is asked for.
@@ -175,10 +216,12 @@ fn is_in(document: Option<usize>, place: &Place<'_>) -> bool
 fn push_asked(
     alloc: Global,
     asked: &Asked<'_>,
+    places: &[Place<'_>],
     document: Option<usize>,
     list: &mut Vec<Value>,
     place: &Place<'_>,
 ) -> Result<(), AllocError>
+    requires { ArePlaces asked.now.registry.now.0 places.now }
     ensures { OnOk result
         (Adds (asked_view asked.now)
         (flat_map spec.references_at
@@ -188,7 +231,7 @@ fn push_asked(
     if !is_in(document, place) {
         return Ok(());
     }
-    push_place(alloc, asked, list, place)
+    push_place(alloc, asked, places, list, place)
 }
 
 // The list of the references of a registry, or of one of its documents.
@@ -206,7 +249,7 @@ fn references_in(
     };
     let mut list = Vec::new(alloc);
     for place in &places {
-        push_asked(alloc, asked, document, &mut list, place)?;
+        push_asked(alloc, asked, places.as_slice(), document, &mut list, place)?;
     }
     Ok(Value::Array(list))
 }
@@ -227,7 +270,8 @@ fn document_of(alloc: Global, tree: &Value) -> Result<Option<usize>, Stop<Value>
 pub fn references(alloc: Global, state: &State, tree: &Value) -> Result<Value, Stop<Value>>
     ensures { Gives (spec.IsReferences state.now (view tree.now)) result }
 {
-    let asked = asked_of(alloc, state, tree)?;
+    let mut asked = asked_of(alloc, state, tree)?;
     let document = document_of(alloc, tree)?;
+    asked.candidates = is_set(alloc, tree, "candidates")?;
     Ok(references_in(alloc, &asked, document)?)
 }

@@ -2,6 +2,8 @@
 ghost use Rattle.std.specs.Prelude.{◌≡◌, ◌<◌, ◌+◌, ◌^◌, ◌++◌, [], None, Some, Ok, IfSome, IfOk, OnOk, OnErr, option_map, length};
 ghost use Rattle.ref_serve.specs.State as spec;
 
+use ref_parts::list::List;
+use ref_uri::Uri;
 use referencing::Registry;
 use std::alloc::{AllocError, Global};
 use std::marker::Model;
@@ -88,10 +90,83 @@ fn lent_of(
     Ok(made)
 }
 
+/// An open registry, and the dynamic scopes that are kept for it, by their numbers. Contracts see both.
+#[derive(Drop)]
+pub struct Slot {
+    registry: Open,
+    scopes: Vec<List<Uri>>,
+}
+
+impl Model for Slot {
+    ghost use Rattle.std.specs.Prelude.{ℕ, List};
+    ghost use Rattle.ref_definitions.specs.World.{Document as WorldDocument};
+    ghost use Rattle.ref_serve.specs.Codes.{slot_code};
+
+    ghost Value = { (List (List WorldDocument) × List ℕ) × List (List (List ℕ)) };
+
+    ghost coded = { slot_code };
+
+    ghost view = { λ s. (s.registry, s.scopes.items) };
+}
+
+impl Slot {
+    /// A registry for which no scope is kept.
+    pub fn new(alloc: Global, registry: Open) -> Slot
+        ensures value { result ≡ (registry, []) }
+    {
+        Slot {
+            registry,
+            scopes: Vec::new(alloc),
+        }
+    }
+
+    // The registry.
+    fn open(&self) -> &Open
+        ensures { result.now ≡ self.now.0 }
+    {
+        &self.registry
+    }
+
+    // The scopes that are kept for it.
+    fn scopes(&self) -> &[List<Uri>]
+        ensures { result.now ≡ self.now.1 }
+    {
+        self.scopes.as_slice()
+    }
+
+    // The registry, as `Open::lend` gives it.
+    fn lend(&mut self, alloc: Global) -> Result<&'static Registry<'static>, AllocError>
+        ensures value { IfOk result (λ r. r.now ≡ self.old.0.0) }
+        ensures same { self.new ≡ self.old }
+    {
+        self.registry.lend(alloc)
+    }
+
+    // Keeps one scope more.
+    fn keep(&mut self, uris: List<Uri>) -> Result<(), AllocError>
+        ensures kept { OnOk result (self.new ≡ spec.with_kept uris self.old) }
+        ensures refused { OnErr result (self.new ≡ self.old) }
+    {
+        self.scopes.push(uris)?;
+        Ok(())
+    }
+}
+
+// Keeps one scope more in the place of a registry, where it isn't closed.
+fn keep_in(slot: &mut Option<Slot>, uris: List<Uri>) -> Result<(), AllocError>
+    ensures kept { OnOk result (slot.new ≡ option_map (spec.with_kept uris) slot.old) }
+    ensures refused { OnErr result (slot.new ≡ slot.old) }
+{
+    match slot {
+        Some(slot) => slot.keep(uris),
+        None => Ok(()),
+    }
+}
+
 /// The registries by their numbers; in the place of a closed one there is none. Contracts see that list.
 #[derive(Drop)]
 pub struct State {
-    slots: Vec<Option<Open>>,
+    slots: Vec<Option<Slot>>,
 }
 
 impl Model for State {
@@ -99,7 +174,7 @@ impl Model for State {
     ghost use Rattle.ref_definitions.specs.World.{Document as WorldDocument};
     ghost use Rattle.ref_serve.specs.Codes.{state_code};
 
-    ghost Value = { List (Option (List (List WorldDocument) × List ℕ)) };
+    ghost Value = { List (Option ((List (List WorldDocument) × List ℕ) × List (List (List ℕ)))) };
 
     ghost coded = { state_code };
 
@@ -129,8 +204,18 @@ impl State {
         ensures value { option_map (λ o. o.now) result ≡ spec.open_at self.now number }
     {
         match self.slots.get(number) {
-            Some(Some(open)) => Some(open),
+            Some(Some(slot)) => Some(slot.open()),
             _ => None,
+        }
+    }
+
+    /// The dynamic scopes that are kept for the registry with a number.
+    pub fn scopes(&self, number: usize) -> &[List<Uri>]
+        ensures value { result.now ≡ spec.scopes_at self.now number }
+    {
+        match self.slots.get(number) {
+            Some(Some(slot)) => slot.scopes(),
+            _ => &[],
         }
     }
 
@@ -148,13 +233,13 @@ impl State {
             return Ok(None);
         }
         match &mut self.slots[number] {
-            Some(open) => Ok(Some(open.lend(alloc)?)),
+            Some(slot) => Ok(Some(slot.lend(alloc)?)),
             None => Ok(None),
         }
     }
 
     /// Gives registries the next numbers. Where there is no memory for that, nothing changes.
-    pub fn add(&mut self, opened: Vec<Option<Open>>) -> Result<(), AllocError>
+    pub fn add(&mut self, opened: Vec<Option<Slot>>) -> Result<(), AllocError>
         ensures added { OnOk result (self.new ≡ self.old ++ opened.items) }
         ensures refused { OnErr result (self.new ≡ self.old) }
     {
@@ -162,7 +247,18 @@ impl State {
         self.slots.append(&mut opened)
     }
 
-    /// Closes the registry with a number.
+    /// Keeps one scope more for the registry with a number, after the others. Where there is no memory for that, nothing changes.
+    pub fn keep(&mut self, number: usize, uris: List<Uri>) -> Result<(), AllocError>
+        ensures kept { OnOk result (self.new ≡ spec.with_scope self.old number uris) }
+        ensures refused { OnErr result (self.new ≡ self.old) }
+    {
+        if number >= self.slots.len() {
+            return Ok(());
+        }
+        keep_in(&mut self.slots[number], uris)
+    }
+
+    /// Closes the registry with a number, and gives back what is kept for it.
     pub fn close(&mut self, number: usize)
         ensures closed { self.new ≡ spec.without_registry self.old number }
     {

@@ -7,6 +7,7 @@ use crate::spots::{Spots, first_of, spots_of};
 use crate::suggestions::{Meant, suggestion};
 use crate::told::{
     case_text, endless_text, no_schema_text, repeated_text, told_help, told_suggestion, told_text,
+    unused_text,
 };
 use crate::why::{fault_text, near_dialect, uri_text};
 use crate::workspace::Workspace;
@@ -17,6 +18,7 @@ use ref_files::Fault;
 use ref_findings::{Bearer, Level as Severity, Problem as Plain};
 use ref_messages::{Excerpt, Level, Message, Other, Suggester};
 use ref_parts::pointer_of;
+use ref_positions::line_and_column;
 use ref_uri::Uri;
 use std::alloc::{AllocError, Global};
 
@@ -186,6 +188,7 @@ impl<'l, 'd> Describer<'l, 'd> {
                 self.workspace.name(*document),
             ),
             Problem::Repeated { name, .. } => repeated_text(self.alloc, name.as_str()),
+            Problem::Unused => unused_text(self.alloc, finding),
             Problem::Told { told, draft } => told_text(self.alloc, finding, *told, *draft),
         }
     }
@@ -410,10 +413,7 @@ fn position_of(
     if let Problem::Repeated { at, .. } = &finding.problem {
         return (at.line, at.column);
     }
-    match spots.own(number, finding) {
-        Some(position) => (position.line(), position.column()),
-        None => (1, 1),
-    }
+    line_and_column(spots.own(number, finding))
 }
 
 // Why a file has no value, and where.

@@ -1,5 +1,6 @@
 //! What is wrong with documents, or is to be noted.
 use crate::placed::Unplaced;
+use crate::unused::Unused;
 use ref_descriptions::Kind;
 use ref_draft::Draft;
 use ref_findings::{Finding as SchemaFinding, Level, Problem as SchemaProblem};
@@ -23,6 +24,8 @@ pub struct Report<'d> {
     pub is_led: bool,
     /// Whether references were followed on, since they may come back to where they began.
     pub may_come_back: bool,
+    /// The definitions of all documents that nothing uses.
+    pub unused: Rc<Unused>,
     /// How many of the documents that are asked about are descriptions.
     pub descriptions: usize,
     /// How many places the descriptions have: objects, and what references lead to.
@@ -38,7 +41,7 @@ pub struct Finding<'d> {
     pub source: usize,
     /// The path in the document of the value that it is about.
     pub path: Vec<JsonPointerSegment<'d>>,
-    /// The keyword there whose text it is about; `None` where it is the document as a whole.
+    /// The keyword there whose text it is about; `None` where it is the value itself, or the document as a whole.
     pub keyword: Option<&'d str>,
     /// The text under that keyword, which is the document's own.
     pub text: Option<&'d str>,
@@ -86,6 +89,8 @@ pub enum Problem<'d> {
         /// Where the first one of its name begins.
         first: Mark,
     },
+    /// A definition that no reference leads to or into, but from within definitions that are so.
+    Unused,
     /// Of a keyword of a schema, which is read by this draft.
     Told {
         /// What is told.
@@ -114,6 +119,7 @@ impl<'d> Problem<'d> {
             Problem::WrongKind { .. } | Problem::NotASchema { .. } | Problem::Endless { .. } =>
                 Level::Error,
             Problem::Repeated { .. } | Problem::OtherCase { .. } => Level::Warning,
+            Problem::Unused => Level::Note,
             Problem::Told { told, .. } => level_of(*told),
         }
     }

@@ -3,6 +3,7 @@
 //! a name, a URI and a text, and answers are values.
 #![tactic(auto)]
 
+mod asking;
 mod cases;
 mod describe;
 mod described;
@@ -29,6 +30,8 @@ mod spots;
 mod suggestions;
 mod summary;
 mod told;
+mod unused;
+mod uses;
 mod view;
 mod why;
 mod workspace;
@@ -41,7 +44,9 @@ pub use finding::{Finding, Mark, Problem, Report};
 pub use placed::{Unplaced, lines_of};
 pub use rules::RULES;
 pub use silences::Silences;
+pub use sources::Known;
 pub use summary::Summary;
+pub use unused::Unused;
 pub use view::View;
 pub use workspace::{Document, Workspace};
 pub use world::World;

@@ -10,8 +10,12 @@
 //! they come back to where they began. Then what is told of a document depends on those that a way of references connects it with, in whichever direction each
 //! goes. Whether references may come back is asked of all documents, by the names of their members alone: where there is no circle among names, there is none
 //! among places.
+//!
+//! Which definitions nothing uses is found out of all documents, by what of each counts for that ([`unused_after`]); so those documents are judged too that have others than
+//! before ([`note_moved`](crate::Unused::note_moved)).
 use crate::heads::Heads;
 use crate::summary::Summary;
+use crate::unused::{Unused, unused_among};
 use crate::world::without_fragment;
 use ref_index::meanings::{if_meant, meta_schema_of, target_of};
 use ref_uri::Uri;
@@ -180,6 +184,32 @@ pub fn may_any_come_back(
         heads.add(&summary.heads)?;
     }
     heads.may_come_back(alloc)
+}
+
+/// The definitions that nothing uses, in all documents: those that there were before, where of each document counts what did before.
+pub fn unused_after(
+    alloc: Global,
+    before: &[Rc<Summary>],
+    after: &[Rc<Summary>],
+    was: &Rc<Unused>,
+) -> Result<Rc<Unused>, AllocError> {
+    let mut is_same = before.len() == after.len();
+    for (old, new) in before.iter().zip(after.iter()) {
+        is_same = is_same && (old.stamp == new.stamp || old.uses.is_same(&new.uses));
+    }
+    if is_same {
+        return was.clone();
+    }
+    unused_of(alloc, after)
+}
+
+/// The definitions that nothing uses, in all documents. A search among names for each reference to another document, and else linear.
+pub fn unused_of(alloc: Global, summaries: &[Rc<Summary>]) -> Result<Rc<Unused>, AllocError> {
+    let mut all = Vec::with_capacity(alloc, summaries.len())?;
+    for summary in summaries {
+        all.push(&summary.uses)?;
+    }
+    unused_among(alloc, all.as_slice())
 }
 
 /// Whether a document without a flag is a description of an API.

@@ -4,7 +4,7 @@ use crate::pointer::place_of;
 use crate::workspace::{Document, Workspace};
 use ref_parts::path::JsonPointerSegment;
 use ref_parts::pointer_of;
-use ref_positions::Places;
+use ref_positions::{Places, line_and_column};
 use ref_reach::Place;
 use serde_json::Value;
 use std::alloc::{AllocError, Global};
@@ -274,10 +274,7 @@ fn add_lines(
     let text = &document.text;
     let located = asked.locate(alloc, text.format, text.text.as_str())?;
     for (index, number) in &numbers {
-        let (line, column) = match located.value(*number) {
-            Some(position) => (position.line(), position.column()),
-            None => (1, 1),
-        };
+        let (line, column) = line_and_column(located.value(*number));
         lines.push((source, line, column, *index))?;
     }
     Ok(())

@@ -1,6 +1,6 @@
 //! Paths as JSON pointers, and as steps.
 use ref_parts::path::JsonPointerSegment;
-use ref_positions::{Format, Places};
+use ref_positions::{Format, Places, line_and_column};
 use referencing::unescape_segment;
 use serde_json::Value;
 use std::alloc::{AllocError, Global};
@@ -38,10 +38,7 @@ fn position_among(
 ) -> Result<(usize, usize), AllocError> {
     let place = place_of(places, path)?;
     let located = places.locate(alloc, format, text)?;
-    match located.value(place) {
-        Some(position) => Ok((position.line(), position.column())),
-        None => Ok((1, 1)),
-    }
+    Ok(line_and_column(located.value(place)))
 }
 
 /// The path that a pointer means in a value, where it leads to one (RFC 6901, 4).

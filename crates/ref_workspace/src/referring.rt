@@ -118,8 +118,8 @@ fn visit_member<'v>(
     Ok(())
 }
 
-// The keys whose values have keys that somebody gave.
-const NAMED: [&str; 18] = [
+/// The keys whose values have keys that somebody gave.
+pub(crate) const NAMED: [&str; 18] = [
     "properties",
     "patternProperties",
     "$defs",
@@ -140,8 +140,8 @@ const NAMED: [&str; 18] = [
     "encoding",
 ];
 
-// Whether nothing in the value under a key refers to something.
-fn is_passed(key: &str, value: &Value) -> bool {
+/// Whether nothing in the value under a key refers to something.
+pub(crate) fn is_passed(key: &str, value: &Value) -> bool {
     match key {
         "enum" | "const" | "default" | "example" => true,
         "examples" => value.is_array(),

@@ -113,6 +113,10 @@ pub const RULES: &[Rule] = &[
         text: "A $schema means a draft, and is not the URI of its meta-schema",
     },
     Rule {
+        code: "unused-definition",
+        text: "No reference leads to a definition or into it, but from definitions that are not used",
+    },
+    Rule {
         code: "unchecked-reference",
         text: "A reference leads into a meta-schema that is not among the given files",
     },
@@ -128,6 +132,7 @@ pub fn code_of(problem: &Problem<'_>, format: Format) -> &'static str {
         Problem::Endless { .. } => "endless-reference",
         Problem::OtherCase { .. } => "case-of-file",
         Problem::Repeated { .. } => "repeated-member",
+        Problem::Unused => "unused-definition",
         Problem::Told { told, .. } => code_of_told(*told),
     }
 }

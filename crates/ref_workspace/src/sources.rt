@@ -16,11 +16,13 @@ use crate::heads::may_be_endless;
 use crate::led::add_led;
 use crate::members::add_repeated;
 use crate::ruled::{add_told, without_misspelled};
+use crate::unused::{Unused, add_unused};
 use crate::workspace::{Document, Workspace};
 use ref_draft::Draft;
 use ref_findings::{Held, Problem, Report as SchemaReport, Source, as_sources, mended, report};
 use serde_json::Value;
 use std::alloc::{AllocError, Global};
+use std::rc::Rc;
 
 // The documents as sources of findings.
 pub(crate) fn sources_of<'d>(
@@ -87,6 +89,28 @@ fn push_tree(trees: &mut Vec<Option<Value>>, tree: Option<Value>) -> Result<(), 
     Ok(())
 }
 
+/// What is known of all documents before some are judged.
+#[derive(Drop)]
+pub struct Known {
+    /// Whether places that no keyword leads to, but references, are looked for even where these documents have none, since there are some in others.
+    pub is_led: bool,
+    /// Whether references may come back to where they began.
+    pub may_come_back: bool,
+    /// The definitions that nothing uses.
+    pub unused: Rc<Unused>,
+}
+
+impl Known {
+    /// The same once more. Fails only if out of memory.
+    pub fn again(&self) -> Result<Known, AllocError> {
+        Ok(Known {
+            is_led: self.is_led,
+            may_come_back: self.may_come_back,
+            unused: self.unused.clone()?,
+        })
+    }
+}
+
 impl Workspace {
     // The sources of those documents that references may lead into.
     fn others<'d>(&'d self, alloc: Global) -> Result<Vec<Source<'d>>, AllocError>
@@ -141,20 +165,27 @@ impl Workspace {
     /// What is wrong with the documents that are asked about, whatever they are, and what is to be noted; and after it which
     /// retrieved documents have no value, and which texts of them mean no URI. Fails only if out of memory.
     pub fn full_report<'d>(&'d self, alloc: Global) -> Result<Report<'d>, AllocError> {
-        let may_come_back = may_be_endless(alloc, self)?;
-        self.report_among(alloc, &[], false, may_come_back)
+        let known = Known {
+            is_led: false,
+            may_come_back: may_be_endless(alloc, self)?,
+            unused: Unused::of(alloc, self)?,
+        };
+        self.report_among(alloc, &[], known)
     }
 
     /// The same as though there were no other documents than those that are looked at, and what was retrieved and has no text: by flags, by
-    /// the numbers of the documents. One without a flag is looked at. Places that no keyword leads to, but references, are looked for where there may be some, or
-    /// where `is_led` says so, since there are some in others; and references that come back to where they began, where `may_come_back` says that there may be some.
+    /// the numbers of the documents. One without a flag is looked at. What is known of all documents counts in place of what could be found in these.
     pub fn report_among<'d>(
         &'d self,
         alloc: Global,
         there: &[bool],
-        is_led: bool,
-        may_come_back: bool,
+        known: Known,
     ) -> Result<Report<'d>, AllocError> {
+        let Known {
+            is_led,
+            may_come_back,
+            unused,
+        } = known;
         let mut described = Described::among(alloc, self, there)?;
         described.is_led = is_led;
         if may_come_back {
@@ -173,6 +204,7 @@ impl Workspace {
         add_cases(alloc, self, &mut findings)?;
         add_told(alloc, self, &described, &mut findings)?;
         add_repeated(alloc, self, &described, &mut findings)?;
+        add_unused(alloc, self, &described, &unused, &mut findings)?;
         self.add_faults(alloc, &described, &mut findings)?;
         let unplaced = described.placed.unplaced(alloc, self)?;
         Ok(Report {
@@ -181,6 +213,7 @@ impl Workspace {
             led,
             is_led: described.is_led,
             may_come_back,
+            unused,
             descriptions: described.descriptions,
             places: described.places,
             unplaced,

@@ -19,9 +19,13 @@ pub struct Spots<'t> {
 }
 
 impl<'t> Spots<'t> {
-    /// Where a finding is, by its number.
+    /// Where a finding is, by its number: where the value that it is about begins, or the key of a definition.
     pub fn own(&self, number: usize, finding: &Finding<'_>) -> Option<Position<'t>> {
-        self.position(finding.source, *self.own.get(number)?)
+        let place = *self.own.get(number)?;
+        match &finding.problem {
+            Problem::Unused => self.located_in(finding.source)?.key(place),
+            _ => self.position(finding.source, place),
+        }
     }
 
     /// Where the first bearer is that a finding clashes with.
@@ -30,10 +34,11 @@ impl<'t> Spots<'t> {
     }
 
     fn position(&self, source: usize, place: usize) -> Option<Position<'t>> {
-        match self.located.get(source)? {
-            Some(located) => located.value(place),
-            None => None,
-        }
+        self.located_in(source)?.value(place)
+    }
+
+    fn located_in(&self, source: usize) -> Option<&Located<'t>> {
+        self.located.get(source)?.as_ref()
     }
 }
 

@@ -1,6 +1,7 @@
 //! What a document has to do with others, by its value alone.
 use crate::heads::Heads;
 use crate::referring::is_referring;
+use crate::uses::Uses;
 use ref_descriptions::version_of;
 use ref_draft::Draft;
 use ref_index::meanings::{if_meant, target_of, text_under};
@@ -33,6 +34,8 @@ pub struct Summary {
     pub is_open: bool,
     /// From which names to which its references lead.
     pub(crate) heads: Heads,
+    /// What of it counts for which definitions are used.
+    pub(crate) uses: Uses,
 }
 
 // A value that is to be visited, with the number of the bases that there may be around it.
@@ -64,6 +67,7 @@ impl Summary {
     ) -> Result<Summary, AllocError> {
         let mut walk = Walk::new(alloc, uri, stamp)?;
         walk.summary.heads = Heads::of(alloc, uri, value)?;
+        walk.summary.uses = Uses::of(alloc, uri, value)?;
         if let Some(root) = value {
             walk.summary.has_value = true;
             walk.summary.is_description = version_of(root).is_some();
@@ -99,6 +103,7 @@ impl Walk {
             is_guessed: false,
             is_open: false,
             heads: Heads::new(alloc),
+            uses: Uses::new(alloc),
         };
         Ok(Walk {
             alloc,

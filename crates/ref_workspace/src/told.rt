@@ -1,6 +1,7 @@
 //! What is said of the keywords of schemas.
 use crate::finding::Finding;
 use ref_draft::Draft;
+use ref_parts::path::JsonPointerSegment;
 use ref_rules::{Problem, meta_schema};
 use std::alloc::{AllocError, Global};
 
@@ -100,6 +101,16 @@ pub(crate) fn case_text(alloc: Global, reference: &str, name: &str) -> Result<St
 /// That a member has the name of an earlier one.
 pub(crate) fn repeated_text(alloc: Global, name: &str) -> Result<String, AllocError> {
     format!(in alloc; "The object has '{name}' already: of members with one name the last counts")
+}
+
+/// That nothing uses a definition, by the last step of its path.
+pub(crate) fn unused_text(alloc: Global, finding: &Finding<'_>) -> Result<String, AllocError> {
+    match finding.path.last() {
+        Some(JsonPointerSegment::Key(name)) => {
+            ["The definition '", name.as_str(), "' is not used"].join(alloc, "")
+        }
+        _ => String::from_str(alloc, "The definition is not used"),
+    }
 }
 
 /// That a reference leads to what is no schema.

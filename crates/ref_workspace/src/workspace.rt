@@ -4,6 +4,7 @@ ghost use Rattle.serde_json.specs.View.{view};
 ghost use Rattle.ref_findings.specs.Held.{held_source};
 ghost use Rattle.ref_workspace.specs.Workspace as spec;
 
+use crate::asking::Asking;
 use crate::led::missing_led;
 use crate::sources::{add_held, faulty_of, sources_of};
 use ref_draft::Draft;
@@ -124,8 +125,8 @@ impl Workspace {
         drop(closed);
     }
 
-    /// Retrieves what the open documents want, in place of what was retrieved before. Those retrieved documents that have a text that
-    /// means no URI come first: they are called by their URIs, and have no text yet. Fails only if out of memory.
+    /// Retrieves what the open documents want, in place of what was retrieved before, each document once. Those retrieved documents
+    /// that have a text that means no URI come first: they are called by their URIs, and have no text yet. Fails only if out of memory.
     pub fn retrieve<R: Retrieve>(
         &mut self,
         alloc: Global,
@@ -133,8 +134,9 @@ impl Workspace {
     ) -> Result<(), AllocError> {
         self.documents.truncate(self.opened);
         self.held.clear();
-        self.gather_all(alloc, retriever)?;
-        self.retrieve_parts(alloc, retriever)
+        let asking = Asking::new(alloc, retriever);
+        self.gather_all(alloc, &asking)?;
+        self.retrieve_parts(alloc, &asking)
     }
 
     // Retrieves what is wanted where keywords lead, of all documents that there are.

@@ -10,7 +10,7 @@ use ref_report::{Failed, Input, MemorySink, MemorySource, Output, Sink, Source, 
 use std::alloc::{AllocError, Global};
 use std::io::{self, ErrorKind, Read, Write};
 
-// A reader of the library's that gives a byte at a time, and fails once it gave so many: for ever, or once.
+// A reader of the library's that gives a byte at a time, and fails once it gave so many: for ever, as timed out, or once.
 #[derive(Drop)]
 struct FailsAfter<'a> {
     bytes: &'a [u8],
@@ -23,7 +23,10 @@ impl Read for FailsAfter<'_> {
 
     fn read(&mut self, buffer: &mut [u8]) -> io::Result<usize> {
         if self.left == 0 {
-            self.left = if self.is_for_ever { 0 } else { usize::MAX };
+            if self.is_for_ever {
+                return Err(io::Error::from(ErrorKind::TimedOut));
+            }
+            self.left = usize::MAX;
             return Err(io::Error::from(ErrorKind::Other));
         }
         self.left -= 1;
@@ -97,13 +100,23 @@ impl Sink for Broken {
     }
 }
 
-// A writer that takes a byte at a write, and fails once it took so many; of which a flush fails too, where it isn't to
-// be flushed.
+// What becomes of a writer that has no room left.
+#[derive(Clone, Copy, Drop)]
+enum End {
+    // Each further write fails.
+    Fails,
+    // A further write takes nothing.
+    TakesNothing,
+    // A flush fails.
+    FailsToFlush,
+}
+
+// A writer that takes a byte at a write, and has room for so many.
 #[derive(Drop)]
 struct Narrow {
     taken: usize,
     room: usize,
-    is_flushed: bool,
+    end: End,
 }
 
 impl Write for Narrow {
@@ -111,7 +124,10 @@ impl Write for Narrow {
 
     fn write(&mut self, bytes: &[u8]) -> io::Result<usize> {
         if self.taken >= self.room {
-            return Err(io::Error::from(ErrorKind::Other));
+            return match self.end {
+                End::TakesNothing => Ok(0),
+                _ => Err(io::Error::from(ErrorKind::BrokenPipe)),
+            };
         }
         let count = bytes.len().min(1);
         self.taken = self.taken.saturating_add(count);
@@ -119,10 +135,9 @@ impl Write for Narrow {
     }
 
     fn flush(&mut self) -> io::Result<()> {
-        if self.is_flushed {
-            Ok(())
-        } else {
-            Err(io::Error::from(ErrorKind::Other))
+        match self.end {
+            End::FailsToFlush => Err(io::Error::from(ErrorKind::Other)),
+            _ => Ok(()),
         }
     }
 }
@@ -206,44 +221,49 @@ fn is_reported(alloc: Global, request: &str) -> bool {
     answer == Err(RunError::Write) && writer.failures == 1
 }
 
-// Whether a run on a request, whose writer has so much room, ends so, with so many writes that failed, and the room filled.
+// Whether a run on a request, whose writer has so much room and such an end, ends so, with so many writes that failed, and the
+// room filled.
 fn is_ended(
     alloc: Global,
     request: &str,
     room: usize,
-    is_flushed: bool,
+    end: End,
     ended: (Result<Status, RunError>, u64),
 ) -> bool {
     let mut reader = MemorySource::new(request.as_bytes());
     let mut writer = Output::new(Narrow {
         taken: 0,
         room,
-        is_flushed,
+        end,
     });
     let answer = run(alloc, &mut reader, &mut writer);
     (answer, writer.failures) == ended && writer.writer.taken == room
 }
 
+// Whether a failure is reported of a writer that has so much room, and of one that takes nothing more then.
+fn is_cut_off(alloc: Global, request: &str, room: usize) -> bool {
+    let ended = (Err(RunError::Write), 1);
+    is_ended(alloc, request, room, End::Fails, ended)
+        && is_ended(alloc, request, room, End::TakesNothing, ended)
+}
+
 // Whether a failure is reported at whichever byte of a report a write fails, and none where none does.
 fn is_reported_at_each_byte(alloc: Global, request: &str, ending: &Ending<'_>) -> bool {
-    for room in 0..ending.report.len() {
-        if !is_ended(alloc, request, room, true, (Err(RunError::Write), 1)) {
+    let bytes = ending.report.len();
+    for room in 0..bytes {
+        if !is_cut_off(alloc, request, room) {
             return false;
         }
     }
-    is_ended(
-        alloc,
-        request,
-        ending.report.len(),
-        true,
-        (Ok(ending.status), 0),
-    )
+    let ended = (Ok(ending.status), 0);
+    is_ended(alloc, request, bytes, End::Fails, ended)
 }
 
 // Whether a failed flush is reported, once the whole report is written.
 fn is_reported_at_the_flush(alloc: Global, request: &str, ending: &Ending<'_>) -> bool {
     let ended = (Err(RunError::Write), 1);
-    is_ended(alloc, request, ending.report.len(), false, ended)
+    let room = ending.report.len();
+    is_ended(alloc, request, room, End::FailsToFlush, ended)
 }
 
 // Whether a report is written into a sink with just its room, without a growth. Where `run` wants memory, nothing is written.

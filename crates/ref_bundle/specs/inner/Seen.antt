@@ -10,10 +10,9 @@ use Rattle.ref_definitions.specs.World.{Document, Layer}
 use Rattle.ref_definitions.specs.Places.{Place, places}
 use Rattle.ref_definitions.specs.Listing.{Listed}
 use Rattle.ref_bundle.specs.Needed.{counted_documents, Reference, Seen}
-use Rattle.ref_bundle.specs.Embedding.{base_uri}
+pub use Rattle.ref_bundle.specs.Parts.{part_document, numbered_part, HasBase}
 use Rattle.ref_bundle.specs.Saying.{seen_spot}
 use Rattle.ref_bundle.specs.declared.own.Own.{Own}
-use Rattle.ref_bundle.specs.declared.embedding.Part as rust_part
 use Rattle.ref_bundle.specs.declared.uris.Reference as rust_reference
 
 -- one of the definition's
@@ -53,17 +52,6 @@ layer_in owns = map document_in owns
 pub record AreOwn (owns : List Own) : Type 0 where
   pub order : map numbered_document owns ≡ counted_documents 0 (layer_in owns)
   pub places : AllByRecursion HasPlaces owns
-
--- a document that is to be embedded
-abbrev pub part_document : rust_part.Part → Document
-part_document p = record { uri = p.uri.now; tree = view p.tree.now; draft = p.draft }
-
-abbrev pub numbered_part : rust_part.Part → ℕ × Document
-numbered_part p = (p.number, part_document p)
-
--- it has its base
-abbrev pub HasBase : rust_part.Part → Type 0
-HasBase p = p.base.value ≡ base_uri (part_document p)
 
 -- ---- places that are listed, document by document
 

@@ -7,6 +7,13 @@ use Rattle.serde_json.specs.declared.value.Value.{Value}
 use Rattle.ref_paths.specs.Segment.{part_of}
 use Rattle.ref_definitions.specs.Lookup.{Resolver}
 use Rattle.ref_serve.specs.declared.references.Reference.{Reference}
+use Rattle.ref_definitions.specs.World.{World, local_documents}
+use Rattle.ref_definitions.specs.Listing.{local_places}
+use Rattle.ref_index.specs.declared.places.Place.{Place}
+use Rattle.ref_index.specs.Listing.{listed_of}
+use Rattle.ref_serve.specs.declared.candidates.Choice.{Choice}
+use Rattle.ref_serve.specs.declared.candidates.Choice.TheVariants as choice
+use Rattle.ref_serve.specs.Candidates as candidates
 use Rattle.ref_serve.specs.References as spec
 use Rattle.ref_serve.specs.Results.{Asked, IsLookedUp}
 
@@ -25,6 +32,15 @@ abbrev pub IsTarget : Asked → Resolver → List ℕ → List ℕ × Data → T
 IsTarget asked r text member =
     (outcome : Result Data Data) × IsLookedUp asked r text outcome
     × (member ∷ [] ≡ spec.target_member outcome)
+
+-- by what a dynamic reference chooses
+abbrev pub choice_seen : Choice → candidates.Choice
+choice_seen (choice.Named name) = candidates.Named name.now
+choice_seen choice.Recursive = candidates.Recursive
+
+-- the places of a world's own documents
+abbrev pub ArePlaces : World → List Place → Type 0
+ArePlaces world places = map listed_of places ≡ local_places (local_documents world)
 
 -- the objects of references come after those of a list
 abbrev pub Adds : Asked → List spec.Reference → List Value → List Value → Type 0

@@ -3,9 +3,9 @@ use Rattle.std.specs.List.{AllByRecursion}
 use Rattle.ref_definitions.specs.World.{Document}
 use Rattle.ref_bundle.specs.Needed.{Further, counted_documents}
 use Rattle.ref_bundle.specs.Bundle.{to_embed, bundle_of}
-use Rattle.ref_bundle.specs.Saying.{refusal_said, bundle_said, further_of}
+use Rattle.ref_bundle.specs.Saying.{refusal_said, further_of}
 use Rattle.ref_bundle.specs.inner.Reach.{is_marked, AreMarked}
-use Rattle.ref_bundle.specs.inner.Seen.{document_in, layer_in, numbered_document, numbered_part, HasBase}
+use Rattle.ref_bundle.specs.inner.Seen.{document_in, layer_in, numbered_document, part_document, numbered_part, HasBase}
 use Rattle.ref_bundle.specs.declared.own.Own.{Own}
 use Rattle.ref_bundle.specs.declared.embedding.Part.{Part}
 use Rattle.ref_bundle.proofs.Gathering.{document_at}
@@ -51,10 +51,12 @@ returns-clause-value c =
     let own = c.args.top.now in
     let n = own.number in
     let marks = c.args.needed.now in
+    let parts = c.in_ok-parts.parts.items in
     let are : AreMarked layer fs n marks = reached_are_needed layer fs n marks c.requires.needed in
-    let embeds = parts_to_embed c.args.owns.now fs n marks c.as_slice-embedded.result.now c.in_ok-parts.parts.items are c.requires.own.order c.as_slice-embedded.ensures.value c.in_ok-parts.ensures.parts in
+    let lent = parts_to_embed c.args.owns.now fs n marks c.as_slice-embedded.result.now parts are c.requires.own.order c.as_slice-embedded.ensures.value c.in_ok-parts.ensures.parts in
+    let embeds = parts_to_embed c.args.owns.now fs n marks parts parts are c.requires.own.order refl c.in_ok-parts.ensures.parts in
     let said : option_map refusal_said c.in_ok-refusal.field-0 ≡ None = search rules in
     let document = ap (λ (e : ℕ × Document). e.1) c.in_ok-top.ensures.value in
-    is_bundle layer fs c.args.bearers.now.registry.now n (document_in own) (bundle_said c.in_ok-bundle_of-in-None.field-0) (document_at document_in c.args.owns.now layer n (Some own) refl c.requires.top)
-    (sym said ∙ first_is layer fs c.args.bearers.now.registry.now n (document_in own) marks (numbered_part c.in_ok-top.top) (map numbered_part c.as_slice-embedded.result.now) (map numbered_document c.args.owns.now) (option_map refusal_said c.in_ok-refusal.field-0) c.requires.own.order are c.in_ok-top.ensures.value embeds c.in_ok-refusal.ensures.value)
-    (c.in_ok-bundle_of-in-None.ensures ∙ ap (λ d. bundle_of d (map numbered_part c.as_slice-embedded.result.now)) document ∙ ap (bundle_of (document_in own)) embeds)
+    is_bundle layer fs c.args.bearers.now.registry.now n (document_in own) (bundle_of (part_document c.in_ok-top.top) (map numbered_part parts)) (document_at document_in c.args.owns.now layer n (Some own) refl c.requires.top)
+    (sym said ∙ first_is layer fs c.args.bearers.now.registry.now n (document_in own) marks (numbered_part c.in_ok-top.top) (map numbered_part c.as_slice-embedded.result.now) (map numbered_document c.args.owns.now) (option_map refusal_said c.in_ok-refusal.field-0) c.requires.own.order are c.in_ok-top.ensures.value lent c.in_ok-refusal.ensures.value)
+    (ap (λ d. bundle_of d (map numbered_part parts)) document ∙ ap (bundle_of (document_in own)) embeds)

@@ -1,6 +1,15 @@
-use Rattle.std.proofs.Common.{map}
+use Rattle.std.proofs.Common.{◌≡◌, ℕ, ◌<◌, [], map, vec_len}
+use Rattle.ref_rules.specs.declared.circles.State.TheVariants.{New}
 use Rattle.ref_rules.specs.Views.{step_of, AreCircles}
+use Rattle.ref_rules.specs.inner.Circling.{state_at, trace_of, IsStack, Holds}
 use Rattle.ref_rules.proofs.circles.circles_of.Given as goal
 
 abbrev pub invariant-loop-place : goal.invariant-loop-place
-invariant-loop-place l = AreCircles (map step_of l.steps) l.list.items
+invariant-loop-place l = record {
+  circles : AreCircles (map step_of l.steps) l.list.items;
+  places : vec_len l.search.states ≡ l.count;
+  stack : IsStack l.count (map step_of l.steps) (trace_of l.search l.list.items);
+  none : l.search.stack.items ≡ [];
+  holds : Holds l.count (map step_of l.steps) (trace_of l.search l.list.items);
+  met : (p : ℕ) → p < l.place → state_at l.search.states.items p ≡ New → ⊥
+}

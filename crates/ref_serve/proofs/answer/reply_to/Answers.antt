@@ -7,5 +7,5 @@ use Rattle.ref_serve.proofs.answer.reply_to.Goals as goal
 pub returns-in_default : goal.returns-in_default
 returns-in_default c = record {
   same = refl;
-  reply = replies c.in_ok-call.call c.args.state.now (view c.args.tree) (call_of (view c.args.tree)) c.unchanged.result c.in_ok-call.ensures (search rules) (search rules) (search rules) c.unchanged.ensures;
+  reply = replies c.in_ok-call.call c.args.state.now (view c.args.tree) (call_of (view c.args.tree)) c.unchanged.result c.in_ok-call.ensures (search rules) (search rules) (search rules) (search rules) c.unchanged.ensures;
 }

@@ -15,5 +15,5 @@ returns c =
     let next = resolver_view c.args.resolver.now in
     let none : members_view c.new-members.result.entries ≡ no_members = search rules in
     view-Object c.put_resolver.new.members
-    ∙ in_two_steps (found_members asked found.location (view found.value.now) found.draft) (resolver_members next) (members_view c.new-members.result.entries) (members_view c.put_found.new.members.entries)
+    ∙ in_two_steps (found_members asked found.location (view found.value.now) found.draft) (resolver_members asked.kept next) (members_view c.new-members.result.entries) (members_view c.put_found.new.members.entries)
     (members_view c.put_resolver.new.members.entries) none c.in_ok-put_found.ensures c.in_ok-put_resolver.ensures
