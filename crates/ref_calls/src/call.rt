@@ -104,7 +104,8 @@ fn fields_of(call: Call) -> &'static [&'static str]
         Call::Follow => &["registry", "base", "scope", "values", "draft", "steps"],
         Call::Scope => &["registry", "scope"],
         Call::Vocabularies => &["registry", "schema", "draft"],
-        Call::Bundle | Call::References => &["registry", "document"],
+        Call::References => &["registry", "document", "candidates"],
+        Call::Bundle => &["registry", "document"],
         Call::Places | Call::Survey | Call::Dangling | Call::Close => &["registry"],
     }
 }

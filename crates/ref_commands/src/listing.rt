@@ -59,17 +59,19 @@ impl Listing {
         Ok(())
     }
 
-    /// Adds a line for each place that descriptions have in a document, whose number is given: where it is, what it is, by which version, and its
-    /// base URI.
+    /// Adds a line for each of these places of a document that descriptions have, or what references of schemas lead to: where it is, what it is, by
+    /// which version, and its base URI.
     pub fn push_described(
         self,
         out: &mut String,
         document: &Document,
-        number: usize,
-        description: &Description<'_>,
+        places: &[&DescribedPlace<'_>],
     ) -> Result<(), AllocError> {
+        if places.is_empty() {
+            return Ok(());
+        }
         let mut asked = Places::new(self.alloc)?;
-        let pushed = self.push_all_described(out, document, number, description, &mut asked);
+        let pushed = self.push_all_described(out, document, places, &mut asked);
         drop(asked);
         pushed
     }
@@ -78,26 +80,16 @@ impl Listing {
         self,
         out: &mut String,
         document: &Document,
-        number: usize,
-        description: &Description<'_>,
+        places: &[&DescribedPlace<'_>],
         asked: &mut Places,
     ) -> Result<(), AllocError> {
-        let mut numbers = Vec::new(self.alloc);
-        for place in &description.places {
-            if place.document == number {
-                numbers.push(place_of(asked, place.path.as_slice())?)?;
-            }
-        }
-        if numbers.is_empty() {
-            return Ok(());
+        let mut numbers = Vec::with_capacity(self.alloc, places.len())?;
+        for place in places {
+            numbers.push(place_of(asked, place.path.as_slice())?)?;
         }
         let text = document.text.text.as_str();
         let located = asked.locate(self.alloc, document.text.format, text)?;
-        let own = description
-            .places
-            .iter()
-            .filter(|place| place.document == number);
-        for (place, number) in own.zip(numbers.iter()) {
+        for (place, number) in places.iter().zip(numbers.iter()) {
             let at = line_and_column(located.value(*number));
             if self.is_json {
                 push_described_object(self.alloc, out, document, place, at)?;
@@ -109,12 +101,38 @@ impl Listing {
     }
 }
 
+/// The places of descriptions in each document, by the numbers of the documents.
+pub(crate) fn described_by_document<'p, 'd>(
+    alloc: Global,
+    documents: usize,
+    description: &'p Description<'d>,
+) -> Result<Vec<Vec<&'p DescribedPlace<'d>>>, AllocError> {
+    let mut lists = Vec::with_capacity(alloc, documents)?;
+    for _ in 0..documents {
+        lists.push(Vec::new(alloc))?;
+    }
+    for place in &description.places {
+        if let Some(list) = lists.get_mut(place.document) {
+            push_described_at(list, place)?;
+        }
+    }
+    Ok(lists)
+}
+
+fn push_described_at<'p, 'd>(
+    list: &mut Vec<&'p DescribedPlace<'d>>,
+    place: &'p DescribedPlace<'d>,
+) -> Result<(), AllocError> {
+    list.push(place)?;
+    Ok(())
+}
+
 fn numbers_of(
     alloc: Global,
     asked: &mut Places,
     places: &[Place<'_>],
 ) -> Result<Vec<usize>, AllocError> {
-    let mut numbers = Vec::new(alloc);
+    let mut numbers = Vec::with_capacity(alloc, places.len())?;
     for place in places {
         numbers.push(place_of(asked, place.path.as_slice())?)?;
     }

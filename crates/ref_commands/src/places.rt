@@ -1,6 +1,6 @@
 //! `patchsard places`.
 
-use crate::listing::Listing;
+use crate::listing::{Listing, described_by_document};
 use crate::members::is_json;
 use crate::opened::{Opened, open_given, reported};
 use clap::ArgMatches;
@@ -8,7 +8,7 @@ use ref_command_line::{Configured, Console, Stop, say_of};
 use ref_files::Format;
 use ref_index::Place;
 use ref_workspace::world::world_of;
-use ref_workspace::{Description, Document, World};
+use ref_workspace::{Document, World};
 
 /// Lists each subschema of files. The status is 0, 1 where a file has no places for a fault of its own, and 2 where a
 /// path couldn't be read.
@@ -77,30 +77,24 @@ fn list_all(
     let description = workspace.description(listing.alloc, true);
     opened.watch.clear();
     let description = description?;
+    let described = described_by_document(listing.alloc, workspace.len(), &description)?;
     let places = world.places(listing.alloc)?;
     let mut rest = places.as_slice();
     for (number, source) in world.sources.iter().enumerate() {
         let count = count_of(rest, number);
         if let Some(document) = workspace.documents().get(*source) {
             let own = rest.get(..count).unwrap_or(rest);
-            if !is_described(&description, *source) {
+            if !description.is_described_at(*source) {
                 listing.push_document(&mut console.out, document, own)?;
             }
-            listing.push_described(&mut console.out, document, *source, &description)?;
+            if let Some(list) = described.get(*source) {
+                listing.push_described(&mut console.out, document, list.as_slice())?;
+            }
             console.pass()?;
         }
         rest = rest.get(count..).unwrap_or(&[]);
     }
     Ok(())
-}
-
-// Whether the document with a number is a description, or a part of one that a reference leads to as a whole.
-fn is_described(description: &Description<'_>, number: usize) -> bool {
-    description
-        .is_described
-        .get(number)
-        .copied()
-        .unwrap_or(false)
 }
 
 // How many places come first that are those of a document.

@@ -132,6 +132,7 @@ impl Asked<'_, '_> {
                 return Ok(0);
             }
             Outcome::Missing(uri) => self.say_missing(uri)?,
+            Outcome::Nowhere(uri) => self.say_nowhere(uri),
             Outcome::Broken(number) => self.say_broken(*number),
             Outcome::NoPlace => {
                 let _ = eprintln!(self.rt;
@@ -163,6 +164,16 @@ impl Asked<'_, '_> {
             }
         }
         Ok(())
+    }
+
+    // Says that a part of a description has no such value.
+    fn say_nowhere(&self, uri: &Uri) {
+        let _ = eprintln!(self.rt;
+            "patchsard: {}: '{}' leads nowhere: no value is at {}",
+            Plain(self.document.name.as_str()),
+            Plain(self.reference),
+            Plain(uri.as_str())
+        );
     }
 
     // Says that a document has no value, or has faults.

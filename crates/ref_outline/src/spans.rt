@@ -129,9 +129,7 @@ fn begins_with_blank(bytes: &[u8]) -> bool
 {
     match bytes {
         [] => true,
-        [first, ..] => {
-            *first == b' ' || *first == b'\t' || *first == b'\n' || *first == b'\r'
-        }
+        [first, ..] => { *first == b' ' || *first == b'\t' || *first == b'\n' || *first == b'\r' }
     }
 }
 

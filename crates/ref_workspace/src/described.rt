@@ -469,7 +469,17 @@ impl Workspace {
         alloc: Global,
         has_led: bool,
     ) -> Result<Description<'d>, AllocError> {
-        let mut described = Described::of(alloc, self)?;
+        self.description_among(alloc, &[], has_led)
+    }
+
+    /// The same of those documents that are looked at, by flags: one without a flag is.
+    pub fn description_among<'d>(
+        &'d self,
+        alloc: Global,
+        there: &[bool],
+        has_led: bool,
+    ) -> Result<Description<'d>, AllocError> {
+        let mut described = Described::among(alloc, self, there)?;
         let mut description = Description {
             places: Vec::new(alloc),
             references: Vec::new(alloc),
@@ -539,6 +549,11 @@ impl Workspace {
 }
 
 impl<'d> Description<'d> {
+    /// Whether the document with a number is a description, or a part that a reference leads to as a whole.
+    pub fn is_described_at(&self, number: usize) -> bool {
+        self.is_described.get(number).copied().unwrap_or(false)
+    }
+
     // Adds the places that descriptions have by themselves, and then those that are reached.
     fn add_all<'r>(
         &mut self,

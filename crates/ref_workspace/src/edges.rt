@@ -27,12 +27,12 @@ pub struct Shape {
 
 /// The documents, or these and their components, with how many references lead from one into another, and how many of these are unresolvable.
 pub fn graph_of(alloc: Global, workspace: &Workspace, shape: Shape) -> Result<Graph, Error> {
-    let report = workspace.full_report(alloc)?;
+    let (findings, has_led) = workspace.references_report(alloc)?;
     let trees = workspace.mended(alloc)?;
     let world = world_of(alloc, workspace, trees.as_slice())?;
-    let description = workspace.description(alloc, report.led > 0)?;
-    let findings = report.findings.as_slice();
-    let mut graph = drawn(alloc, (workspace, shape), &world, &description, findings)?;
+    let description = workspace.description(alloc, has_led)?;
+    let list = findings.as_slice();
+    let mut graph = drawn(alloc, (workspace, shape), &world, &description, list)?;
     if shape.is_connected {
         graph.leave_out_lone();
     }

@@ -18,6 +18,7 @@ mod leads;
 mod led;
 mod members;
 pub mod near;
+mod parts;
 mod placed;
 pub mod pointer;
 pub mod referring;

@@ -191,13 +191,8 @@ impl Workspace {
         if may_come_back {
             described.links = Some(Vec::new(alloc));
         }
-        let mut more = Vec::new(alloc);
-        add_described(alloc, self, &mut described, &mut more)?;
         let mut findings = Vec::new(alloc);
-        let references = self.add_plain(alloc, &described, &mut findings)?;
-        let led = add_led(alloc, self, references, &mut described, &mut more)?;
-        let references = references.saturating_add(led);
-        push_all(&mut findings, more)?;
+        let (references, led) = self.add_references(alloc, &mut described, &mut findings)?;
         if let Some(links) = &described.links {
             add_endless(alloc, self, links.as_slice(), &mut findings)?;
         }
@@ -218,6 +213,35 @@ impl Workspace {
             places: described.places,
             unplaced,
         })
+    }
+
+    // Adds what is wrong with the references of the documents that are looked at. Returns how many schemas have, by their own places and by what
+    // references lead to, and how many of these are of the latter.
+    fn add_references<'d>(
+        &'d self,
+        alloc: Global,
+        described: &mut Described,
+        findings: &mut Vec<Finding<'d>>,
+    ) -> Result<(usize, usize), AllocError> {
+        let mut more = Vec::new(alloc);
+        add_described(alloc, self, described, &mut more)?;
+        let references = self.add_plain(alloc, &*described, findings)?;
+        let led = add_led(alloc, self, references, described, &mut more)?;
+        push_all(findings, more)?;
+        Ok((references.saturating_add(led), led))
+    }
+
+    /// What is wrong with the references of the documents that are asked about, and whether references of schemas lead to places that no keyword
+    /// leads to; a part of what [`full_report`](Workspace::full_report) says. Fails only if out of memory.
+    pub(crate) fn references_report<'d>(
+        &'d self,
+        alloc: Global,
+    ) -> Result<(Vec<Finding<'d>>, bool), AllocError> {
+        let mut described = Described::of(alloc, self)?;
+        let mut findings = Vec::new(alloc);
+        let (_references, led) = self.add_references(alloc, &mut described, &mut findings)?;
+        drop(described);
+        Ok((findings, led > 0))
     }
 
     // Adds which retrieved documents have no value, and which texts of them mean no URI.

@@ -103,13 +103,50 @@ pub(crate) fn repeated_text(alloc: Global, name: &str) -> Result<String, AllocEr
     format!(in alloc; "The object has '{name}' already: of members with one name the last counts")
 }
 
-/// That nothing uses a definition, by the last step of its path.
+/// That nothing uses a definition or a component, by its path.
 pub(crate) fn unused_text(alloc: Global, finding: &Finding<'_>) -> Result<String, AllocError> {
-    match finding.path.last() {
-        Some(JsonPointerSegment::Key(name)) => {
-            ["The definition '", name.as_str(), "' is not used"].join(alloc, "")
+    match finding.path.as_slice() {
+        [.., JsonPointerSegment::Key(name)] => {
+            let (kind, name) = (kind_of(finding.path.as_slice()), name.as_str());
+            format!(in alloc; "The {kind} '{name}' is not used")
         }
         _ => String::from_str(alloc, "The definition is not used"),
+    }
+}
+
+// What is at a path: a component of an API description by the map that has it, else a definition.
+fn kind_of(path: &[JsonPointerSegment<'_>]) -> &'static str {
+    match path {
+        [
+            JsonPointerSegment::Key(root),
+            JsonPointerSegment::Key(map),
+            _,
+        ] => {
+            if root.as_str() == "components" {
+                return kind_in(map.as_str());
+            }
+            "definition"
+        }
+        [JsonPointerSegment::Key(map), _] => kind_in(map.as_str()),
+        _ => "definition",
+    }
+}
+
+// What the values of a map of an API description are.
+fn kind_in(map: &str) -> &'static str {
+    match map {
+        "schemas" => "schema",
+        "responses" => "response",
+        "parameters" => "parameter",
+        "examples" => "example",
+        "requestBodies" => "request body",
+        "headers" => "header",
+        "securitySchemes" => "security scheme",
+        "links" => "link",
+        "callbacks" => "callback",
+        "pathItems" => "path item",
+        "mediaTypes" => "media type",
+        _ => "definition",
     }
 }
 

@@ -219,6 +219,17 @@ impl<'d> World<'d> {
         self.sources.iter().position(|number| *number == source)
     }
 
+    /// By the numbers of as many documents as a workspace has, whether one is in the registry.
+    pub fn flags(&self, alloc: Global, documents: usize) -> Result<Vec<bool>, AllocError> {
+        let mut flags = vec![in alloc; false; documents]?;
+        for number in &self.sources {
+            if let Some(flag) = flags.get_mut(*number) {
+                *flag = true;
+            }
+        }
+        Ok(flags)
+    }
+
     /// The places of all documents.
     pub fn places(&self, alloc: Global) -> Result<Vec<Place<'_>>, AllocError> {
         self.registry.places(alloc).ok().ok_or(AllocError)

@@ -11,5 +11,5 @@ invariant-loop-place l = record {
   stack : IsStack l.count (map step_of l.steps) (trace_of l.search l.list.items);
   none : l.search.stack.items ≡ [];
   holds : Holds l.count (map step_of l.steps) (trace_of l.search l.list.items);
-  met : (p : ℕ) → p < l.place → state_at l.search.states.items p ≡ New → ⊥
+  met : (p : ℕ) → p < l.place → state_at l.search.states.items p ≡ New → ⊥;
 }

@@ -48,8 +48,8 @@ returns-in_ok-pass-in-Some-next-clause-smaller c = λ some.
     let n = c.in-Some-next.number in
     let more : d.next ≡ get_or before n None = c.number_at-next.ensures ∙ ap (λ l. get_or l n None) c.as_slice.ensures.value in
     let now = passed_stack count S last before m b n (slice_get S n) chains
-      (middle_stack count S last before a m c.pop.new.self.items e d n chains c.requires.stack c.in-Some.ensures.items c.in-Some-next.is refl c.in_ok-push-in-Some-next.ensures.items refl more)
-      c.in_ok-pass-in-Some-next.ensures.passes in
+    (middle_stack count S last before a m c.pop.new.self.items e d n chains c.requires.stack c.in-Some.ensures.items c.in-Some-next.is refl c.in_ok-push-in-Some-next.ensures.items refl more)
+    c.in_ok-pass-in-Some-next.ensures.passes in
     subst (λ l. measure l b < measure l a) long
     (passed_less count S last before a m b c.pop.new.self.items e d n (slice_get S n) chains now c.in-Some.ensures.items c.in-Some-next.is more refl c.in_ok-push-in-Some-next.ensures.items c.in_ok-pass-in-Some-next.ensures.passes)
 

@@ -9,7 +9,7 @@ invariant-loop-alloc l = record {
   places : vec_len l.self.states ≡ vec_len l.initial.self.states;
   stack : IsStack (vec_len l.initial.self.states) (map step_of l.steps) (trace_of l.self l.list.items);
   holds : Holds (vec_len l.initial.self.states) (map step_of l.steps) (trace_of l.initial.self l.initial.list.items) → Holds (vec_len l.initial.self.states) (map step_of l.steps) (trace_of l.self l.list.items);
-  kept : Kept (trace_of l.initial.self l.initial.list.items) (trace_of l.self l.list.items)
+  kept : Kept (trace_of l.initial.self l.initial.list.items) (trace_of l.self l.list.items);
 }
 
 abbrev pub decreases-loop-alloc : goal.decreases-loop-alloc
