@@ -473,7 +473,7 @@ impl Workspace {
     }
 
     /// The same of those documents that are looked at, by flags: one without a flag is.
-    pub fn description_among<'d>(
+    pub(crate) fn description_among<'d>(
         &'d self,
         alloc: Global,
         there: &[bool],

@@ -220,7 +220,7 @@ impl<'d> World<'d> {
     }
 
     /// By the numbers of as many documents as a workspace has, whether one is in the registry.
-    pub fn flags(&self, alloc: Global, documents: usize) -> Result<Vec<bool>, AllocError> {
+    pub(crate) fn flags(&self, alloc: Global, documents: usize) -> Result<Vec<bool>, AllocError> {
         let mut flags = vec![in alloc; false; documents]?;
         for number in &self.sources {
             if let Some(flag) = flags.get_mut(*number) {
