@@ -176,22 +176,22 @@ class OneProcess(unittest.TestCase):
             asks()
 
     def test_a_call_that_takes_too_long(self):
-        held = Registry({"u:a": SCHEMA}, timeout=0.3)
+        held = Registry({"u:a": SCHEMA}, timeout=2)
         resolver = held.resolver("u:a")
         resolver.lookup("#/$defs/1")
-        for asks in (lambda: resolver.lookup("#/$defs/2"), lambda: Registry({"u:b": {"enum": ["x" * 1_000_000]}}, timeout=0.3).crawl()):
+        for asks in (lambda: resolver.lookup("#/$defs/2"), lambda: Registry({"u:b": {"enum": ["x" * 1_000_000]}}, timeout=2).crawl()):
             pid = _process.shared().pid
             os.kill(pid, signal.SIGSTOP)
             begin = time.monotonic()
             with self.assertRaises(patchsard.CallTimedOut) as raised:
                 asks()
             self.assertIsInstance(raised.exception, TimeoutError)
-            self.assertTrue(0.25 < time.monotonic() - begin < 10, time.monotonic() - begin)
+            self.assertTrue(1.9 < time.monotonic() - begin < 20, time.monotonic() - begin)
             self.assertIs(resolver.lookup("#/$defs/3").contents, SCHEMA["$defs"]["3"])
             self.assertNotEqual(_process.shared().pid, pid)
 
     def test_a_call_that_waits_too_long_for_another(self):
-        resolver = Registry({"u:a": SCHEMA}, timeout=0.2).resolver("u:a")
+        resolver = Registry({"u:a": SCHEMA}, timeout=2).resolver("u:a")
         resolver.lookup("#/$defs/1")
         with _process.shared()._lock:
             raised = []
