@@ -105,8 +105,8 @@ pub(crate) fn repeated_text(alloc: Global, name: &str) -> Result<String, AllocEr
 
 /// That nothing uses a definition or a component, by its path.
 pub(crate) fn unused_text(alloc: Global, finding: &Finding<'_>) -> Result<String, AllocError> {
-    match finding.path.as_slice() {
-        [.., JsonPointerSegment::Key(name)] => {
+    match finding.path.last() {
+        Some(JsonPointerSegment::Key(name)) => {
             let (kind, name) = (kind_of(finding.path.as_slice()), name.as_str());
             format!(in alloc; "The {kind} '{name}' is not used")
         }
@@ -117,18 +117,20 @@ pub(crate) fn unused_text(alloc: Global, finding: &Finding<'_>) -> Result<String
 // What is at a path: a component of an API description by the map that has it, else a definition.
 fn kind_of(path: &[JsonPointerSegment<'_>]) -> &'static str {
     match path {
-        [
-            JsonPointerSegment::Key(root),
-            JsonPointerSegment::Key(map),
-            _,
-        ] => {
-            if root.as_str() == "components" {
-                return kind_in(map.as_str());
-            }
-            "definition"
-        }
-        [JsonPointerSegment::Key(map), _] => kind_in(map.as_str()),
+        [root, map, _] => match key_of(root) {
+            "components" => kind_in(key_of(map)),
+            _ => "definition",
+        },
+        [map, _] => kind_in(key_of(map)),
         _ => "definition",
+    }
+}
+
+// The key that a step is, or nothing where it is an index.
+fn key_of<'p>(step: &'p JsonPointerSegment<'_>) -> &'p str {
+    match step {
+        JsonPointerSegment::Key(key) => key.as_str(),
+        JsonPointerSegment::Index(_) => "",
     }
 }
 
