@@ -59,19 +59,20 @@ impl Listing {
         Ok(())
     }
 
-    /// Adds a line for each of these places of a document that descriptions have, or what references of schemas lead to: where it is, what it is, by
-    /// which version, and its base URI.
+    /// Adds a line for each of the places with these numbers, which a document has in a description: where it is, what it is, by which version, and
+    /// its base URI.
     pub fn push_described(
         self,
         out: &mut String,
         document: &Document,
-        places: &[&DescribedPlace<'_>],
+        own: &[usize],
+        description: &Description<'_>,
     ) -> Result<(), AllocError> {
-        if places.is_empty() {
+        if own.is_empty() {
             return Ok(());
         }
         let mut asked = Places::new(self.alloc)?;
-        let pushed = self.push_all_described(out, document, places, &mut asked);
+        let pushed = self.push_all_described(out, document, own, description, &mut asked);
         drop(asked);
         pushed
     }
@@ -80,50 +81,62 @@ impl Listing {
         self,
         out: &mut String,
         document: &Document,
-        places: &[&DescribedPlace<'_>],
+        own: &[usize],
+        description: &Description<'_>,
         asked: &mut Places,
     ) -> Result<(), AllocError> {
-        let mut numbers = Vec::with_capacity(self.alloc, places.len())?;
-        for place in places {
-            numbers.push(place_of(asked, place.path.as_slice())?)?;
+        let mut numbers = Vec::with_capacity(self.alloc, own.len())?;
+        for index in own {
+            if let Some(place) = description.places.get(*index) {
+                numbers.push(place_of(asked, place.path.as_slice())?)?;
+            }
         }
         let text = document.text.text.as_str();
         let located = asked.locate(self.alloc, document.text.format, text)?;
-        for (place, number) in places.iter().zip(numbers.iter()) {
+        for (index, number) in own.iter().zip(numbers.iter()) {
             let at = line_and_column(located.value(*number));
-            if self.is_json {
-                push_described_object(self.alloc, out, document, place, at)?;
-            } else {
-                push_described_place(self.alloc, out, document, place, at)?;
+            if let Some(place) = description.places.get(*index) {
+                self.push_described_at(out, document, place, at)?;
             }
         }
         Ok(())
     }
+
+    fn push_described_at(
+        self,
+        out: &mut String,
+        document: &Document,
+        place: &DescribedPlace<'_>,
+        at: (usize, usize),
+    ) -> Result<(), AllocError> {
+        if self.is_json {
+            push_described_object(self.alloc, out, document, place, at)
+        } else {
+            push_described_place(self.alloc, out, document, place, at)
+        }
+    }
 }
 
-/// The places of descriptions in each document, by the numbers of the documents.
-pub(crate) fn described_by_document<'p, 'd>(
+/// The numbers of the places that each document has in a description, by the numbers of the documents.
+pub(crate) fn numbers_by_document(
     alloc: Global,
     documents: usize,
-    description: &'p Description<'d>,
-) -> Result<Vec<Vec<&'p DescribedPlace<'d>>>, AllocError> {
+    description: &Description<'_>,
+) -> Result<Vec<Vec<usize>>, AllocError> {
     let mut lists = Vec::with_capacity(alloc, documents)?;
     for _ in 0..documents {
         lists.push(Vec::new(alloc))?;
     }
-    for place in &description.places {
+    for (number, place) in description.places.iter().enumerate() {
         if let Some(list) = lists.get_mut(place.document) {
-            push_described_at(list, place)?;
+            push_number(list, number)?;
         }
     }
     Ok(lists)
 }
 
-fn push_described_at<'p, 'd>(
-    list: &mut Vec<&'p DescribedPlace<'d>>,
-    place: &'p DescribedPlace<'d>,
-) -> Result<(), AllocError> {
-    list.push(place)?;
+fn push_number(list: &mut Vec<usize>, number: usize) -> Result<(), AllocError> {
+    list.push(number)?;
     Ok(())
 }
 

@@ -1,6 +1,6 @@
 //! `patchsard places`.
 
-use crate::listing::{Listing, described_by_document};
+use crate::listing::{Listing, numbers_by_document};
 use crate::members::is_json;
 use crate::opened::{Opened, open_given, reported};
 use clap::ArgMatches;
@@ -77,7 +77,7 @@ fn list_all(
     let description = workspace.description(listing.alloc, true);
     opened.watch.clear();
     let description = description?;
-    let described = described_by_document(listing.alloc, workspace.len(), &description)?;
+    let described = numbers_by_document(listing.alloc, workspace.len(), &description)?;
     let places = world.places(listing.alloc)?;
     let mut rest = places.as_slice();
     for (number, source) in world.sources.iter().enumerate() {
@@ -88,7 +88,8 @@ fn list_all(
                 listing.push_document(&mut console.out, document, own)?;
             }
             if let Some(list) = described.get(*source) {
-                listing.push_described(&mut console.out, document, list.as_slice())?;
+                let own = list.as_slice();
+                listing.push_described(&mut console.out, document, own, &description)?;
             }
             console.pass()?;
         }

@@ -13,3 +13,4 @@ pub mod PlacesTold
 pub mod Scopes
 pub mod OnLiterals
 pub mod Choosing
+pub mod ThreeLists
