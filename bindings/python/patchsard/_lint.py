@@ -90,7 +90,7 @@ def lint(
     >>> import tempfile
     >>> with tempfile.TemporaryDirectory() as folder:
     ...     with open(f"{folder}/order.json", "w") as file:
-    ...         _ = file.write('{"$ref": "#/$defs/itme", "$defs": {"item": {}}}')
+    ...         _ = file.write('{"$ref": "#/$defs/itme", "not": {"$ref": "#/$defs/item"}, "$defs": {"item": {}}}')
     ...     found = lint(".", directory=folder)
     >>> print(*found)
     order.json:1:10: error[pointer-to-nowhere]: Pointer '/$defs/itme' does not exist
