@@ -9,10 +9,20 @@ use std::hash::{Hash, Hasher};
 use std::marker::Model;
 use std::rc::Rc;
 
-/// An immutable list, linked from its front. Lists share what is after an item that was put in front.
+/// An immutable list, linked from its front. Lists share what is after an item that was put in front. A list of one item has
+/// no link.
 #[cycle(list)]
 pub struct List<T: Drop> {
-    head: Option<Rc<Node<T>>>,
+    held: Held<T>,
+}
+
+// What a list has: nothing, one item, or a link.
+#[cycle(list)]
+#[derive(Drop)]
+enum Held<T: Drop> {
+    Nothing,
+    One(Rc<T>),
+    Linked(Rc<Node<T>>),
 }
 
 #[cycle(list)]
@@ -29,7 +39,7 @@ impl<T: Drop> Model for List<T> {
 
     ghost use Rattle.ref_parts.specs.inner.Items.{items_of};
 
-    ghost view = { λ l. items_of l.head };
+    ghost view = { λ l. items_of l.held };
 
     ghost size = { length };
 
@@ -40,25 +50,25 @@ impl<T: Drop> Model for List<T> {
 
 impl<T: Drop> Drop for List<T> {
     fn drop(self) {
-        let List { head } = self;
-        let mut rest = head;
-        while let Some(node) = rest {
+        let List { held } = self;
+        let mut rest = held;
+        while let Held::Linked(node) = rest {
             rest = rest_of(node);
         }
     }
 }
 
 // Lets a node go, and returns what is after it where no other list has it.
-fn rest_of<T: Drop>(node: Rc<Node<T>>) -> Option<Rc<Node<T>>>
+fn rest_of<T: Drop>(node: Rc<Node<T>>) -> Held<T>
     ensures { length (items_of result) ≤ length node.value.next }
 {
     match Rc::into_inner(node) {
         Some(last) => {
             let Node { value, next } = last;
             drop(value);
-            next.into_head()
+            next.into_held()
         }
-        None => None,
+        None => Held::Nothing,
     }
 }
 
@@ -67,67 +77,77 @@ impl<T: Drop> List<T> {
     pub fn new() -> Self
         ensures empty { result ≡ [] }
     {
-        List { head: None }
+        List {
+            held: Held::Nothing,
+        }
     }
 
     /// Whether the list has no items.
     pub fn is_empty(&self) -> bool
         ensures value { result ≡ (length self.now == 0) }
     {
-        self.head.is_none()
+        matches!(self.held, Held::Nothing)
     }
 
     /// The list with this item in front. This list stays, and is shared.
     ///
-    /// Takes memory for one link, whatever the length, and is refused where there is none.
+    /// Takes memory for one link, whatever the length, and is refused where there is none; by the code, none where this list is
+    /// empty, which no clause says.
     #[inline(always)]
     pub fn push_front(&self, alloc: Global, value: Rc<T>) -> Result<Self, AllocError>
         ensures items { IfOk result (λ list. list ≡ value.value ∷ self.now) }
     {
+        if self.is_empty() {
+            return Ok(List {
+                held: Held::One(value),
+            });
+        }
         let next = self.clone()?;
         let node = Rc::new(alloc, Node { value, next })?;
-        Ok(List { head: Some(node) })
+        Ok(List {
+            held: Held::Linked(node),
+        })
     }
 
     /// The items from the front on. Takes no memory.
     pub fn iter(&self) -> Iter<'_, T>
         ensures items { result ≡ self.now }
     {
-        Iter { rest: self }
+        Iter { rest: Some(self) }
     }
 
-    // The first node.
-    fn into_head(self) -> Option<Rc<Node<T>>>
+    // What it has.
+    fn into_held(self) -> Held<T>
         ensures { items_of result ≡ self }
     {
-        let List { head } = self;
-        head
+        let List { held } = self;
+        held
     }
 }
 
 /// The same items, shared: one handle more, whatever the length. By the code it takes no memory; no clause says so.
 ///
-/// It fails only where the first link has no count left for one more handle, which `std::rc::Rc` returns as out of
-/// memory. The empty list has no link, and its copy succeeds.
+/// It fails only where the first link, or the only item, has no count left for one more handle, which `std::rc::Rc` returns
+/// as out of memory. The empty list has neither, and its copy succeeds.
 impl<T: Drop> Clone for List<T> {
     ghost is_clone = { λ list copy. copy ≡ list };
 
     ghost is_infallible = { λ list. list ≡ [] };
 
     fn clone(&self) -> Result<Self, AllocError> {
-        let Some(node) = &self.head else {
-            return Ok(List::new());
+        let held = match &self.held {
+            Held::Nothing => Held::Nothing,
+            Held::One(item) => Held::One(item.clone()?),
+            Held::Linked(node) => Held::Linked(node.clone()?),
         };
-        Ok(List {
-            head: Some(node.clone()?),
-        })
+        Ok(List { held })
     }
 }
 
 /// The items of a list that are left, from the front on.
 #[derive(Drop)]
 pub struct Iter<'a, T: Drop> {
-    rest: &'a List<T>,
+    rest: Option<&'a List<T>>,
 }
 
 impl<'a, T: Drop> Model for Iter<'a, T> {
@@ -135,7 +155,9 @@ impl<'a, T: Drop> Model for Iter<'a, T> {
 
     ghost Value = { List T };
 
-    ghost view = { λ i. i.rest.now };
+    ghost use Rattle.ref_parts.specs.inner.Items.{items_left};
+
+    ghost view = { λ i. items_left i.rest };
 }
 
 impl<'a, T: Drop> Iterator for Iter<'a, T> {
@@ -148,10 +170,18 @@ impl<'a, T: Drop> Iterator for Iter<'a, T> {
     ghost remaining = { item_count (λ items. items) };
 
     fn next(&mut self) -> Option<&'a T> {
-        let list = self.rest;
-        let node = list.head.as_ref()?;
-        self.rest = &node.next;
-        Some(&node.value)
+        let list = self.rest?;
+        match &list.held {
+            Held::Nothing => None,
+            Held::One(item) => {
+                self.rest = None;
+                Some(item)
+            }
+            Held::Linked(node) => {
+                self.rest = Some(&node.next);
+                Some(&node.value)
+            }
+        }
     }
 }
 
@@ -218,6 +248,9 @@ impl<T: fmt::Debug + Drop> fmt::Debug for List<T> {
 
 impl<T: fmt::Debug + Drop> fmt::Debug for Iter<'_, T> {
     fn fmt<W: fmt::Write>(&self, f: &mut fmt::Formatter<W>) -> fmt::Result {
-        f.debug_struct("Iter").field("rest", self.rest).finish()
+        let none = List::new();
+        f.debug_struct("Iter")
+            .field("rest", self.rest.unwrap_or(&none))
+            .finish()
     }
 }

@@ -1,15 +1,17 @@
 //! What a fragment means in the resource at a place: what a pointer leads to, or what an anchor names, a dynamic one by
 //! the dynamic scope.
-ghost use Rattle.std.specs.Prelude.{◌≡◌, [], List, ℕ, IfOk, IfErr, IfSome, MatchOption, option_and_then, None, Some, Ok};
+ghost use Rattle.std.specs.Prelude.{◌≡◌, ◌==◌, [], List, ℕ, map, false, IfOk, IfErr, IfSome, MatchOption, option_and_then, option_map, None, Some, Ok};
+ghost use Rattle.std.specs.List.{list_any, last_or};
 ghost use Rattle.std.specs.Result.{result_ok};
 ghost use Rattle.serde_json.specs.View.{view};
+ghost use Rattle.ref_parts.specs.Pointer.{slash};
 ghost use Rattle.ref_draft.specs.Anchors.{Plain};
 ghost use Rattle.ref_definitions.specs.World.{World};
 ghost use Rattle.ref_definitions.specs.Resources.{own_uri, meant_place};
 ghost use Rattle.ref_definitions.specs.Anchors.{Named, anchor, named_by_identifier, named_entry, not_named};
 ghost use Rattle.ref_definitions.specs.Fault.{not_retrieved};
 ghost use Rattle.ref_definitions.specs.Lookup.{Resolver as Start, by_scope, in_scope, named_found};
-ghost use Rattle.ref_error.specs.Errors.{IsFaultOf, Gives, IsForReason, SaysOrMemory};
+ghost use Rattle.ref_error.specs.Errors.{IsFaultOf, IsMemory, Gives, IsForReason, SaysOrMemory};
 ghost use Rattle.ref_error.specs.declared.error.Reason.TheVariants.{NotSupported};
 ghost use Rattle.ref_resolver.specs.Layered.{world_in};
 ghost use Rattle.ref_resolver.specs.inner.Located.{IsLocated, IsNamed};
@@ -24,6 +26,7 @@ use crate::resolver::{Resolved, Resolver};
 use ref_draft::{Draft, ResourceRef};
 use ref_error::{Error, Reason, RetrieveError};
 use ref_index::shared;
+use ref_parts::list::List;
 use ref_uri::Uri;
 use serde_json::Value;
 use std::alloc::{AllocError, Global};
@@ -65,12 +68,18 @@ pub(crate) fn identified_base<'r>(layers: &Layers<'r>, uri: &str) -> Option<&'r 
     Some(place.entry.base.as_str())
 }
 
-// The entry of a name under the base of the place that a URI means, where that place has an identifier.
+// The entry of a name under the base of the place that a URI means, where that place has an identifier. There is none under
+// the URI itself, so that it isn't looked for where that is the base.
 fn named_by_identifier<'r>(layers: &Layers<'r>, uri: &str, name: &str) -> Option<LocatedName<'r>>
+    requires not_there { named_entry (world_in layers.now) uri.now name.now ≡ None }
     ensures { MatchOption result (named_by_identifier (world_in layers.now) uri.now name.now ≡ None)
         (IsNamed (named_by_identifier (world_in layers.now) uri.now name.now)) }
 {
-    layers.named(identified_base(layers, uri)?, name)
+    let base = identified_base(layers, uri)?;
+    if base == uri {
+        return None;
+    }
+    layers.named(base, name)
 }
 
 // The entry that a name under a URI means: the one there, or else the one under the base of the place there.
@@ -142,9 +151,117 @@ pub(crate) fn under_uri<'r>(
     })
 }
 
+// The place of a dynamic anchor of this name, which has no `/` in it, under a URI. None where the name means a plain one or
+// nothing.
+fn dynamic_place<'r>(layers: &Layers<'r>, uri: &str, name: &str) -> Option<Located<'r>>
+    requires plain { list_any (λ c. c == slash) name.now ≡ false }
+    ensures { IsDynamicUnder (world_in layers.now) uri.now name.now result }
+{
+    let found = meaning(layers, uri, name)?;
+    if found.named.is_dynamic {
+        Some(found.place)
+    } else {
+        None
+    }
+}
+
+// Whether a name has a `/` in it.
+fn has_slash(name: &str) -> bool
+    ensures { result ≡ list_any (λ c. c == slash) name.now }
+{
+    name.as_bytes().contains(&b'/')
+}
+
+// The last URI of a list.
+fn last_of(uris: &List<Uri>) -> Option<&Uri>
+    ensures { option_map (λ uri. uri.now) result ≡ last_or None uris.now }
+{
+    let mut last = None;
+    for uri in uris {
+        last = Some(uri);
+    }
+    last
+}
+
+// The URIs of a list, lent. Takes memory for so many handles.
+fn lent<'l>(alloc: Global, uris: &'l List<Uri>) -> Result<Vec<&'l Uri>, AllocError>
+    ensures { IfOk result (λ list. map (λ uri. uri.now) list.items ≡ uris.now) }
+{
+    let mut list = Vec::with_capacity(alloc, 64)?;
+    for uri in uris {
+        list.push(uri)?;
+    }
+    Ok(list)
+}
+
 // The place of the outermost dynamic anchor of a name in the dynamic scope, or else the place that was found first (2020-12
-// Core, 8.2.3.2), and the URI that it was found under. A look-up for each URI of the scope.
+// Core, 8.2.3.2), and the URI that it was found under. The URIs of the scope are asked from the last one on, up to the first
+// that has it, each by a look-up; takes memory for handles of them where the last one hasn't. Of a name with `/` each is
+// asked, from the first one on.
 pub(crate) fn outermost<'s, 'r>(
+    alloc: Global,
+    resolver: &'s Resolver<'r>,
+    name: &str,
+    first: Located<'r>,
+) -> Result<(&'s Uri, Located<'r>), Error>
+    ensures ok { (n : Named) → IsLocated first.entry n.place
+        → IfOk result
+        (λ found. IsOutermost (world_of resolver.now)
+        (resolver_of resolver.now) n name.now found.0.now found.1) }
+    ensures fault { (n : Named) → IsLocated first.entry n.place
+        → IfErr result
+        (IsFaultOf
+        (by_scope (resolver_of resolver.now) n
+        (in_scope (world_of resolver.now) name.now (resolver_of resolver.now).scope))) }
+{
+    if has_slash(name) {
+        return outermost_of_all(alloc, resolver, name, first);
+    }
+    let Some(end) = last_of(&resolver.scope) else {
+        return Ok((&resolver.base, first));
+    };
+    match dynamic_place(&resolver.layers, end.as_str(), name) {
+        Some(place) => Ok((end, place)),
+        None => before_the_end(alloc, resolver, name, first, end),
+    }
+}
+
+// The same where the name has no `/` in it, and there is no such dynamic anchor under a URI, the last one of the scope. A URI
+// that is the one asked before isn't asked again.
+#[inline(never)]
+fn before_the_end<'s, 'r>(
+    alloc: Global,
+    resolver: &'s Resolver<'r>,
+    name: &str,
+    first: Located<'r>,
+    end: &'s Uri,
+) -> Result<(&'s Uri, Located<'r>), Error>
+    requires plain { list_any (λ c. c == slash) name.now ≡ false }
+    requires end { dynamic_under (world_of resolver.now) end.now name.now ≡ Ok [] }
+    ensures ok { (n : Named) → IsLocated first.entry n.place
+        → IfOk result
+        (λ found. IsOutermost (world_of resolver.now)
+        (resolver_of resolver.now) n name.now found.0.now found.1) }
+    ensures fault { IfErr result IsMemory }
+{
+    let mut uris = lent(alloc, &resolver.scope)?;
+    let mut asked = end;
+    while let Some(uri) = uris.pop() {
+        if uri.as_str() == asked.as_str() {
+            continue;
+        }
+        if let Some(place) = dynamic_place(&resolver.layers, uri.as_str(), name) {
+            return Ok((uri, place));
+        }
+        asked = uri;
+    }
+    Ok((&resolver.base, first))
+}
+
+// The same, where a URI of the scope that means no such anchor is a fault: of a name with `/`. A look-up for each URI of the
+// scope.
+#[inline(never)]
+fn outermost_of_all<'s, 'r>(
     alloc: Global,
     resolver: &'s Resolver<'r>,
     name: &str,

@@ -153,16 +153,16 @@ impl<'r> Layers<'r> {
     pub(crate) fn resolve_place(
         &self,
         alloc: Global,
-        base: UriRef<'_>,
+        base: &Uri,
         uri: &str,
     ) -> Result<(Rc<Uri>, Option<Located<'r>>), Error>
-        ensures gives { Gives (λ t. t.0.value) (as_invalid_uri (uri_against base.entry uri.now))
+        ensures gives { Gives (λ t. t.0.value) (as_invalid_uri (uri_against base.now uri.now))
             result }
         ensures place { IfOk result
             (λ t. IfSome t.1 (IsMeant (meant_place (world_in self.now) t.0.value))) }
     {
         if seems_absolute(uri) {
-            if let Some(found) = self.identified(&base, uri)? {
+            if let Some(found) = self.identified(base, uri)? {
                 return Ok(found);
             }
         }
@@ -173,7 +173,7 @@ impl<'r> Layers<'r> {
         if let Some(uri) = resolved_above(self.parents, base.as_str(), uri) {
             return Ok((uri.clone()?, None));
         }
-        Ok((anew(alloc, base, uri)?, None))
+        Ok((anew(alloc, base.borrow(), uri)?, None))
     }
 
     // What a text means that identifies a place of the own documents, in normal form: then it means itself, and needs no
@@ -181,7 +181,7 @@ impl<'r> Layers<'r> {
     #[inline(never)]
     fn identified(
         &self,
-        base: &UriRef<'_>,
+        base: &Uri,
         uri: &str,
     ) -> Result<Option<(Rc<Uri>, Option<Located<'r>>)>, AllocError>
         ensures uri { IfOk result

@@ -336,7 +336,7 @@ impl<'r> Resolver<'r> {
             (found.entry.layer, spot_of found.entry.place.entry.now)) }
         ensures world { IfOk result (λ f. world_found f.0 ≡ world_of self.now) }
     {
-        let scope = self.scope_at(alloc, uri.as_str())?;
+        let scope = self.scope_at(alloc, uri.as_str(), false)?;
         let resolved = self.at_pointer(alloc, uri, scope, found.place, pointer, text)?;
         let location = location_along(alloc, found, text)?;
         Ok((resolved, location))

@@ -34,12 +34,14 @@ pub struct Resolver<'r> {
     ghost known: { KnowsPlace layers base place } by { knows_once layers base place },
 }
 
-// What a reference points into: the URI, the place that it means, where that is known without a look-up, and the fragment.
+// What a reference points into: the URI, the place that it means, where that is known without a look-up, and the fragment;
+// and whether the URI is known to be the base without a comparison.
 #[derive(Drop)]
 pub(crate) struct Target<'r, 't> {
     pub uri: Rc<Uri>,
     pub place: Option<Located<'r>>,
     pub fragment: &'t str,
+    pub is_base: bool,
 }
 
 // What is before the last `#` of a reference, which is the whole where there is none, and its fragment: what follows a `#` in
@@ -161,20 +163,24 @@ impl<'r> Resolver<'r> {
         ensures place { IfOk result
             (λ t. IfSome t.place (IsMeant (meant_place (world_of self.now) t.uri.value))) }
         ensures fragment { IfOk result (λ t. t.fragment.now ≡ fragment_part reference.now) }
+        ensures base { IfOk result
+            (λ t. t.is_base ≡ true → t.uri.value ≡ (resolver_of self.now).base) }
     {
         if let Some(fragment) = reference.strip_prefix('#') {
             return Ok(Target {
                 uri: self.base.clone()?,
                 place: self.place,
                 fragment,
+                is_base: true,
             });
         }
         let (uri, fragment) = cut_at_hash(reference);
-        let (uri, place) = self.layers.resolve_place(alloc, self.base.borrow(), uri)?;
+        let (uri, place) = self.layers.resolve_place(alloc, &self.base, uri)?;
         Ok(Target {
             uri,
             place,
             fragment,
+            is_base: false,
         })
     }
 
@@ -197,13 +203,20 @@ impl<'r> Resolver<'r> {
         })
     }
 
-    // The dynamic scope at a URI: the old base goes before it where it was empty or the base changes.
+    // The dynamic scope at a URI: the old base goes before it where it was empty or the base changes. Where the URI is known to
+    // be the base, the two aren't compared.
     #[inline(always)]
-    pub(crate) fn scope_at(&self, alloc: Global, uri: &str) -> Result<List<Uri>, AllocError>
+    pub(crate) fn scope_at(
+        &self,
+        alloc: Global,
+        uri: &str,
+        is_base: bool,
+    ) -> Result<List<Uri>, AllocError>
+        requires base { is_base ≡ true → uri.now ≡ (resolver_of self.now).base }
         ensures { IfOk result
             (λ scope. scope ≡ (moved_resolver (resolver_of self.now) uri.now).scope) }
     {
-        if self.scope.is_empty() || uri != self.base.as_str() {
+        if self.scope.is_empty() || (!is_base && uri != self.base.as_str()) {
             self.scope.push_front(alloc, self.base.clone()?)
         } else {
             self.scope.clone()
@@ -216,7 +229,7 @@ impl<'r> Resolver<'r> {
             (λ r. resolver_of r ≡ moved_resolver (resolver_of self.now) uri.value) }
         ensures world { IfOk result (λ r. world_of r ≡ world_of self.now) }
     {
-        let scope = self.scope_at(alloc, uri.as_str())?;
+        let scope = self.scope_at(alloc, uri.as_str(), false)?;
         Ok(Resolver {
             layers: self.layers,
             base: uri,
@@ -253,11 +266,11 @@ impl<'r> Resolver<'r> {
     /// Refuses as `InvalidUri` for a text, or an identifier on the way, that means no URI; as `Unretrievable` for a URI that
     /// means no place; as `InvalidPercentEncoding`, `InvalidArrayIndex` and `PointerToNowhere` for a pointer that leads
     /// nowhere; as `NoSuchAnchor` and, where there is a `/` in it, `InvalidAnchor` for a name that nothing has; and as
-    /// `Memory`. Look-ups in tables, one for each part of a pointer, and for a dynamic anchor one for each URI of the scope;
-    /// of a fragment alone, the place of the base isn't looked for where it is known: it is at what a look-up of a URI without
-    /// a fragment finds, and in a resolver of a registry. No value is copied. By the code, `#` takes no memory
-    /// where the scope isn't empty and the base means a place; no clause says so, but [`Resolver::at_base`] takes none by its
-    /// signature.
+    /// `Memory`. Look-ups in tables, one for each part of a pointer, and for a dynamic anchor one for each URI of the scope from
+    /// the outermost on, up to the first that has it, and a step for each of the others; where there is a `/` in its name, one
+    /// for each URI. Of a fragment alone, the place of the base isn't looked for where it is known: it is at what a look-up of a
+    /// URI without a fragment finds, and in a resolver of a registry. No value is copied. By the code, `#` takes no memory
+    /// where the base means a place; no clause says so, but [`Resolver::at_base`] takes none by its signature.
     pub fn lookup(&self, alloc: Global, reference: &str) -> Result<Resolved<'r>, Error>
         ensures gives { Gives found_of
             (lookup (world_of self.now) (resolver_of self.now) reference.now) result }
@@ -267,6 +280,7 @@ impl<'r> Resolver<'r> {
             uri,
             place,
             fragment,
+            is_base,
         } = self.target(alloc, reference)?;
         if is_name(fragment) {
             return self.at_name(alloc, uri, fragment);
@@ -274,7 +288,7 @@ impl<'r> Resolver<'r> {
         let Some(place) = self.layers.resource_or(place, uri.as_str()) else {
             return Err(not_retrieved(alloc, &uri));
         };
-        let scope = self.scope_at(alloc, uri.as_str())?;
+        let scope = self.scope_at(alloc, uri.as_str(), is_base)?;
         if let Some(text) = fragment.strip_prefix('/') {
             return self.at_pointer(alloc, uri, scope, place, fragment, text);
         }
@@ -360,7 +374,7 @@ impl<'r> Resolver<'r> {
         if found.named.is_dynamic {
             return self.at_dynamic(alloc, uri, name, found.place);
         }
-        let scope = self.scope_at(alloc, uri.as_str())?;
+        let scope = self.scope_at(alloc, uri.as_str(), false)?;
         Ok(Resolved {
             contents: found.place.value,
             resolver: Resolver {

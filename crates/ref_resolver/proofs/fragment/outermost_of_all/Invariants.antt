@@ -2,7 +2,7 @@ use Rattle.ref_definitions.specs.Anchors.{Named}
 use Rattle.ref_resolver.specs.inner.Located.{IsLocated}
 use Rattle.ref_resolver.specs.Resolving.{resolver_of, world_of}
 use Rattle.ref_resolver.proofs.Scoping.{IsFoundFor}
-use Rattle.ref_resolver.proofs.fragment.outermost.Given as goal
+use Rattle.ref_resolver.proofs.fragment.outermost_of_all.Given as goal
 
 abbrev pub invariant-loop-outer : goal.invariant-loop-outer
 invariant-loop-outer l =
