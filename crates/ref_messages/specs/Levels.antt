@@ -1,6 +1,7 @@
 -- Which level findings of a rule have.
-use Rattle.std.specs.Prelude.{ℕ, List, [], ◌∷◌, bytes_eq, Option, if◌then◌else◌}
+use Rattle.std.specs.Prelude.{ℕ, List, [], ◌∷◌, bytes_eq, codes, Option, if◌then◌else◌}
 use Rattle.ref_messages.specs.declared.message.Level.{Level}
+use Rattle.ref_messages.specs.declared.message.Level.TheVariants.{Error, Warning, Note}
 
 -- a rule that is set to a level, or off
 pub record Chosen : Type 0 where
@@ -15,3 +16,9 @@ chosen_by c code level = if bytes_eq c.code code then c.level else level
 abbrev pub level_by : List Chosen → List ℕ → Option Level → Option Level
 level_by [] code level = level
 level_by (c ∷ cs) code level = level_by cs code (chosen_by c code level)
+
+-- the name of a level
+abbrev pub name_of : Level → List ℕ
+name_of Error = codes "error"
+name_of Warning = codes "warning"
+name_of Note = codes "note"

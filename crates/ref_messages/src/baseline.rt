@@ -1,4 +1,6 @@
 //! Findings that are known, so that only new ones are listed.
+ghost use Rattle.std.specs.Prelude.{◌≡◌, []};
+
 use crate::members::push_member;
 use crate::message::Message;
 use serde_json::Value;
@@ -16,7 +18,9 @@ pub struct Baseline {
 
 impl Baseline {
     /// None.
-    pub fn new(alloc: Global) -> Baseline {
+    pub fn new(alloc: Global) -> Baseline
+        ensures value { result.counts.entries ≡ [] }
+    {
         Baseline {
             alloc,
             counts: BTreeMap::new(alloc),

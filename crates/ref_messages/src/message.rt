@@ -1,4 +1,7 @@
 //! A message about a place in a file.
+ghost use Rattle.std.specs.Prelude.{◌≡◌};
+ghost use Rattle.ref_messages.specs.Levels.{name_of};
+
 use crate::excerpt::Excerpt;
 
 /// The level of a message.
@@ -14,7 +17,9 @@ pub enum Level {
 
 impl Level {
     /// Its name, as all forms but GitHub's have it.
-    pub fn name(self) -> &'static str {
+    pub fn name(self) -> &'static str
+        ensures value { result.now ≡ name_of self }
+    {
         match self {
             Level::Error => "error",
             Level::Warning => "warning",

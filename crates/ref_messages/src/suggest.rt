@@ -1,4 +1,6 @@
 //! What may be meant by a name that isn't there.
+ghost use Rattle.std.specs.Prelude.{◌≡◌, ◌&&◌, ◌-◌, if◌then◌else◌, nat_le};
+
 use std::alloc::{AllocError, Global};
 use strsim::levenshtein;
 
@@ -26,7 +28,10 @@ pub struct Suggester {
 
 impl Suggester {
     /// One whose searches take at most so many steps in all.
-    pub fn new(steps: usize) -> Suggester {
+    pub fn new(steps: usize) -> Suggester
+        ensures left { result.left ≡ steps }
+        ensures left_here { result.left_here ≡ 0 }
+    {
         Suggester {
             left: steps,
             left_here: 0,
@@ -34,12 +39,20 @@ impl Suggester {
     }
 
     /// Begins another search.
-    pub fn begin(&mut self) {
+    pub fn begin(&mut self)
+        ensures left { self.new.left ≡ self.old.left }
+        ensures left_here { self.new.left_here ≡ 65536 }
+    {
         self.left_here = STEPS_OF_A_SEARCH;
     }
 
     /// Counts a step, and says whether the search may take it.
-    pub fn step(&mut self) -> bool {
+    pub fn step(&mut self) -> bool
+        ensures value { result ≡ (nat_le 1 self.old.left && nat_le 1 self.old.left_here) }
+        ensures left { self.new.left ≡ (if result then self.old.left - 1 else self.old.left) }
+        ensures left_here { self.new.left_here
+            ≡ (if result then self.old.left_here - 1 else self.old.left_here) }
+    {
         self.take(1)
     }
 
@@ -61,7 +74,12 @@ impl Suggester {
         Ok(Some(edits))
     }
 
-    fn take(&mut self, steps: usize) -> bool {
+    fn take(&mut self, steps: usize) -> bool
+        ensures value { result ≡ (nat_le steps self.old.left && nat_le steps self.old.left_here) }
+        ensures left { self.new.left ≡ (if result then self.old.left - steps else self.old.left) }
+        ensures left_here { self.new.left_here
+            ≡ (if result then self.old.left_here - steps else self.old.left_here) }
+    {
         let (Some(left), Some(left_here)) = (
             self.left.checked_sub(steps),
             self.left_here.checked_sub(steps),

@@ -1,6 +1,8 @@
 //! Rows of the definitions. Each function is empty: its contract states rows, and the check computes them.
-ghost use Rattle.std.specs.Prelude.{◌≡◌, [], ◌∷◌, codes};
+ghost use Rattle.std.specs.Prelude.{◌≡◌, [], ◌∷◌, codes, None, Some};
+ghost use Rattle.serde_json.specs.Data.{null, string};
 ghost use Rattle.ref_outline.specs.Offsets.{offset_of, token_end};
+ghost use Rattle.ref_outline.specs.Steps.{text_in};
 
 /// Offsets of lines and columns; 195 and 169 are a character of two bytes.
 pub fn offsets()
@@ -37,4 +39,10 @@ pub fn plain_tokens()
     ensures before_a_comment { token_end 0 (codes "a #b") ≡ 1 }
     ensures before_a_tab_and_a_comment { token_end 0 (codes "a\t#b") ≡ 1 }
     ensures hash { token_end 0 (codes "a#b") ≡ 3 }
+{}
+
+/// The texts that scalars of JSON are.
+pub fn texts()
+    ensures of_a_tree { text_in (Some (string (codes "a"))) ≡ Some (codes "a") }
+    ensures of_another_tree { text_in (Some null) ≡ None }
 {}

@@ -1,4 +1,7 @@
 //! Where each value of a text is.
+ghost use Rattle.std.specs.Prelude.{◌≡◌, option_and_then, option_map, slice_get};
+ghost use Rattle.std.specs.BTreeMap.{get_by_text};
+
 use crate::spans::token_end;
 use json::{Reader, Scratch, Token};
 use ref_parts::{write_escaped_str, write_index};
@@ -71,7 +74,11 @@ impl Outline {
     }
 
     /// The value at a pointer.
-    pub fn at(&self, pointer: &str) -> Option<&Node> {
+    pub fn at(&self, pointer: &str) -> Option<&Node>
+        ensures value { option_map (λ node. node.now) result
+            ≡ option_and_then (slice_get self.now.nodes.items)
+            (get_by_text self.now.numbers pointer.now) }
+    {
         self.nodes.get(*self.numbers.get(pointer)?)
     }
 }

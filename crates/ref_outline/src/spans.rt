@@ -1,6 +1,8 @@
 //! Where parts of a text are, by what is known of them.
-ghost use Rattle.std.specs.Prelude.{◌≡◌, ◌≤◌, false, length};
+ghost use Rattle.std.specs.Prelude.{◌≡◌, ◌≤◌, ◌∷◌, ◌++◌, false, length, map, option_map, string_bytes, IfOk, IfSome, OnOk};
+ghost use Rattle.ref_parts.specs.Pointer.{part_text, pointer_text};
 ghost use Rattle.ref_outline.specs.Offsets as spec;
+ghost use Rattle.ref_outline.specs.Steps.{decoded, part_of};
 
 use ref_parts::{write_escaped_str, write_index};
 use ref_positions::{Format, Part, Step, part_at};
@@ -178,16 +180,28 @@ fn plain_count(bytes: &[u8]) -> usize
 }
 
 /// The pointer of steps (RFC 6901).
-pub fn pointer_of_steps(alloc: Global, steps: &[Step]) -> Result<String, AllocError> {
+#[tactic(auto, using(crate::proofs::Steps::one_step))]
+pub fn pointer_of_steps(alloc: Global, steps: &[Step]) -> Result<String, AllocError>
+    ensures value { IfOk result
+        (λ pointer. string_bytes pointer ≡ pointer_text (map part_of steps.now)) }
+{
     let mut pointer = String::new(alloc);
     for step in steps {
-        pointer.push('/')?;
-        match step {
-            Step::Member(key) => write_escaped_str(&mut pointer, key.as_str())?,
-            Step::Item(index) => write_index(&mut pointer, *index)?,
-        }
+        push_step(&mut pointer, step)?;
     }
     Ok(pointer)
+}
+
+// Adds a step to a pointer.
+fn push_step(pointer: &mut String, step: &Step) -> Result<(), AllocError>
+    ensures value { OnOk result (string_bytes pointer.new
+        ≡ string_bytes pointer.old ++ 47 ∷ part_text (part_of step.now)) }
+{
+    pointer.push('/')?;
+    match step {
+        Step::Member(key) => write_escaped_str(pointer, key.as_str()),
+        Step::Item(index) => write_index(pointer, *index),
+    }
 }
 
 /// The part of a text at an offset: of two that touch there, as a key and a colon, the shorter.
@@ -196,12 +210,19 @@ pub fn part_in(
     format: Format,
     text: &str,
     offset: usize,
-) -> Result<Option<Part>, AllocError> {
+) -> Result<Option<Part>, AllocError>
+    ensures around { IfOk result
+        (λ found. IfSome found (λ part. (part.start ≤ offset) × (offset ≤ part.end))) }
+    ensures within { IfOk result
+        (λ found. IfSome found (λ part. part.end ≤ length text.now)) }
+{
     part_at(alloc, format, text, offset)
 }
 
 /// The text that a scalar in quotes of JSON is.
-pub fn decoded(alloc: Global, token: &str) -> Result<Option<String>, AllocError> {
+pub fn decoded(alloc: Global, token: &str) -> Result<Option<String>, AllocError>
+    ensures value { IfOk result (λ text. option_map string_bytes text ≡ decoded token.now) }
+{
     match Value::from_str(alloc, token) {
         Ok(Value::String(text)) => Ok(Some(text)),
         Ok(other) => {

@@ -1,2 +1,3 @@
+pub mod Ignoring
 pub mod Patterns
 pub mod inner

@@ -1,4 +1,8 @@
 //! What Git leaves out, by its files `.gitignore`.
+ghost use Rattle.std.specs.Prelude.{◌≡◌, [], ◌∷◌, ◌++◌, IfOk, OnOk, OnErr};
+ghost use Rattle.ref_patterns.specs.Ignoring.{is_ignored, said, said_by};
+ghost use Rattle.ref_patterns.specs.Patterns.{any_matches, parts_in};
+
 use crate::matching::is_matched;
 use crate::pattern::{Part, parts_of};
 use std::alloc::{AllocError, Global};
@@ -53,7 +57,9 @@ impl Ignore {
     }
 
     // What it says of a path; the last line that matches counts.
-    fn verdict(&self, alloc: Global, path: &str, is_folder: bool) -> Result<Verdict, AllocError> {
+    fn verdict(&self, alloc: Global, path: &str, is_folder: bool) -> Result<Verdict, AllocError>
+        ensures value { IfOk result (λ verdict. said verdict ≡ said_by is_folder path.now self.now) }
+    {
         let Some(below) = path.strip_prefix(self.folder.as_str()) else {
             return Ok(Verdict::Open);
         };
@@ -80,7 +86,9 @@ pub struct IgnoreList {
 
 impl IgnoreList {
     /// None: nothing is left out.
-    pub fn new(alloc: Global) -> IgnoreList {
+    pub fn new(alloc: Global) -> IgnoreList
+        ensures value { result.list.items ≡ [] }
+    {
         IgnoreList {
             alloc,
             list: Vec::new(alloc),
@@ -88,13 +96,19 @@ impl IgnoreList {
     }
 
     /// Adds what the file of a folder says, which counts before those that are there.
-    pub fn push(&mut self, ignore: Ignore) -> Result<(), AllocError> {
+    pub fn push(&mut self, ignore: Ignore) -> Result<(), AllocError>
+        ensures ok { OnOk result (self.new.list.items ≡ self.old.list.items ++ ignore ∷ []) }
+        ensures err { OnErr result (self.new.list.items ≡ self.old.list.items) }
+    {
         self.list.push(ignore)?;
         Ok(())
     }
 
     /// Whether the file or the folder at a path is left out. What is below a folder that is left out isn't looked for: ask about folders first, from above.
-    pub fn is_ignored(&self, path: &str, is_folder: bool) -> Result<bool, AllocError> {
+    pub fn is_ignored(&self, path: &str, is_folder: bool) -> Result<bool, AllocError>
+        ensures value { IfOk result
+            (λ found. found ≡ is_ignored self.now.list.items is_folder path.now) }
+    {
         for number in 0..self.list.len() {
             let ignore = &self.list[self.list.len() - 1 - number];
             match ignore.verdict(self.alloc, path, is_folder)? {
@@ -108,7 +122,10 @@ impl IgnoreList {
 }
 
 impl Line {
-    fn matches(&self, alloc: Global, path: &str) -> Result<bool, AllocError> {
+    fn matches(&self, alloc: Global, path: &str) -> Result<bool, AllocError>
+        ensures value { IfOk result
+            (λ found. found ≡ any_matches (parts_in self.now.alternatives.items) path.now) }
+    {
         for parts in &self.alternatives {
             if is_matched(alloc, parts.as_slice(), path.as_bytes())? {
                 return Ok(true);

@@ -1,5 +1,7 @@
 //! Patterns of paths.
-ghost use Rattle.std.specs.Prelude.{◌≡◌, IfOk};
+ghost use Rattle.std.specs.Prelude.{◌≡◌, ◌≤◌, ◌∷◌, ◌++◌, [], drop, IfOk, OnOk};
+ghost use Rattle.std.specs.List.{list_any};
+ghost use Rattle.ref_patterns.specs.Patterns.{alternatives_of, any_matches, first_part, is_wild, parts_of, with_name};
 
 use crate::matching::is_matched;
 use std::alloc::{AllocError, Global};
@@ -29,7 +31,9 @@ pub struct Pattern {
 }
 
 /// Whether a text is more than a path: it has a star, a question mark or a brace.
-pub fn is_pattern(text: &str) -> bool {
+pub fn is_pattern(text: &str) -> bool
+    ensures value { result ≡ list_any is_wild text.now }
+{
     text.bytes().any(|byte| matches!(byte, b'*' | b'?' | b'{'))
 }
 
@@ -47,7 +51,10 @@ impl Pattern {
     }
 
     /// Whether it matches a path. Fails only if out of memory. Some steps for each byte of the pattern and of the path.
-    pub fn matches(&self, alloc: Global, path: &str) -> Result<bool, AllocError> {
+    pub fn matches(&self, alloc: Global, path: &str) -> Result<bool, AllocError>
+        ensures value { IfOk result
+            (λ found. found ≡ any_matches (alternatives_of self.now) path.now) }
+    {
         for parts in &self.alternatives {
             if is_matched(alloc, parts.as_slice(), path.as_bytes())? {
                 return Ok(true);
@@ -62,7 +69,9 @@ fn push_text(list: &mut Vec<String>, text: String) -> Result<(), AllocError> {
     Ok(())
 }
 
-fn push_part(list: &mut Vec<Part>, part: Part) -> Result<(), AllocError> {
+fn push_part(list: &mut Vec<Part>, part: Part) -> Result<(), AllocError>
+    ensures value { OnOk result (list.new.items ≡ list.old.items ++ part ∷ []) }
+{
     list.push(part)?;
     Ok(())
 }
@@ -118,27 +127,40 @@ fn with_choices(
 }
 
 // The parts of a text without braces.
-pub(crate) fn parts_of(alloc: Global, text: &str) -> Result<Vec<Part>, AllocError> {
+pub(crate) fn parts_of(alloc: Global, text: &str) -> Result<Vec<Part>, AllocError>
+    ensures value { IfOk result (λ parts. parts.items ≡ parts_of text.now) }
+{
     let mut parts = Vec::new(alloc);
     let bytes = text.as_bytes();
     let mut index: usize = 0;
-    for _ in 0..bytes.len() {
+    for passed in 0..bytes.len() {
         if index >= bytes.len() {
             break;
         }
         let is_first = index == 0 || bytes[index - 1] == b'/';
         let (part, length) = part_at(bytes, index, is_first);
-        push_part(&mut parts, part)?;
-        if part == Part::Folders && index.saturating_add(length) >= bytes.len() {
-            push_part(&mut parts, Part::Name)?;
-        }
         index = index.saturating_add(length);
+        push_read(&mut parts, part, index >= bytes.len())?;
     }
     Ok(parts)
 }
 
+// Adds a part of a text; folders at its end go on with any name.
+fn push_read(list: &mut Vec<Part>, part: Part, is_last: bool) -> Result<(), AllocError>
+    ensures value { OnOk result (list.new.items ≡ list.old.items ++ with_name is_last part) }
+{
+    push_part(list, part)?;
+    if is_last && part == Part::Folders {
+        push_part(list, Part::Name)?;
+    }
+    Ok(())
+}
+
 // The part at an index, and how many bytes it has.
-fn part_at(bytes: &[u8], index: usize, is_first: bool) -> (Part, usize) {
+fn part_at(bytes: &[u8], index: usize, is_first: bool) -> (Part, usize)
+    ensures value { result ≡ first_part is_first (drop index bytes.now) }
+    ensures some { 1 ≤ result.1 }
+{
     let rest = bytes.get(index..).unwrap_or(&[]);
     match rest {
         [b'*', b'*', b'/', ..] if is_first => (Part::Folders, 3),

@@ -11,3 +11,8 @@ has_end end text = ends_with (λ a b. a == b) text end
 -- the format of the file at a path: YAML by `.yaml` or `.yml`, and else JSON
 abbrev pub format_of : List ℕ → Format
 format_of path = if has_end (codes ".yaml") path || has_end (codes ".yml") path then Yaml else Json
+
+-- its name
+abbrev pub name_of : Format → List ℕ
+name_of Json = codes "JSON"
+name_of Yaml = codes "YAML"

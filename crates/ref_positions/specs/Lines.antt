@@ -1,5 +1,5 @@
 -- Lines and columns of the bytes of a text.
-use Rattle.std.specs.Prelude.{◌≡◌, ◌≤◌, ◌+◌, ◌==◌, ◌||◌, ℕ, List, Bool, cond, take, length, nat_lt, nat_le}
+use Rattle.std.specs.Prelude.{◌≡◌, ◌≤◌, ◌<◌, ◌+◌, ◌==◌, ◌||◌, ◌&&◌, ℕ, List, Bool, true, false, cond, take, length, nat_lt, nat_le, get_or}
 use Rattle.std.specs.List.{fold}
 
 -- the first byte of a character (RFC 3629, 3)
@@ -49,3 +49,17 @@ pub record IsAt (text : List ℕ) (offset on at : ℕ) : Type 0 where
   pub first_column : 1 ≤ at
   pub few_lines : on ≤ offset + 1
   pub few_columns : at ≤ offset + 1
+
+-- whether an offset is the end of the text, or between characters and at or after a column of a line, in units of UTF-16, or at the end of that line
+abbrev pub is_beyond : List ℕ → ℕ → ℕ → ℕ → Bool
+is_beyond text line unit offset =
+    nat_le (length text) offset
+    || (begins_character (get_or text offset 0)
+    && (nat_lt line (line_of text offset)
+    || ((line_of text offset == line)
+    && (nat_le unit (unit_of text offset) || get_or text offset 0 == 10))))
+
+-- the first such offset
+pub record IsAtUnit (text : List ℕ) (line unit offset : ℕ) : Type 0 where
+  pub beyond : is_beyond text line unit offset ≡ true
+  pub first : (k : ℕ) → k < offset → is_beyond text line unit k ≡ false

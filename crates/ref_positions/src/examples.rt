@@ -2,9 +2,9 @@
 #![tactic(auto)]
 
 ghost use Rattle.std.specs.Prelude.{◌≡◌, ℕ, List, [], ◌∷◌, Some, None, true, false, codes, replicate};
-ghost use Rattle.ref_positions.specs.Lines.{begins_character, next_line, next_column, next_unit, line_of, column_of, unit_of, units_of, IsAt};
+ghost use Rattle.ref_positions.specs.Lines.{begins_character, next_line, next_column, next_unit, line_of, column_of, unit_of, units_of, is_beyond, IsAt};
 ghost use Rattle.ref_positions.specs.declared.format.Format.TheVariants.{Json, Yaml};
-ghost use Rattle.ref_positions.specs.Formats.{format_of};
+ghost use Rattle.ref_positions.specs.Formats.{format_of, name_of};
 ghost use Rattle.ref_positions.specs.Paths.{member, item, below, number_of};
 ghost use Rattle.ref_positions.specs.Parts.{close, key, name, object, parts, scalar, value, value_in, key_in};
 ghost use Rattle.json.specs.Token as json;
@@ -145,4 +145,16 @@ pub fn spots()
     ensures at_the_end { (p : position_type) → p.text.now ≡ codes "ab" → p.offset ≡ 2 → IsSpot (codes "ab") (Some 9) (Some p) }
     ensures no_spot { ¬ (IsSpot (codes "ab") (Some 1) None) }
     ensures another { (p : position_type) → p.offset ≡ 0 → ¬ (IsSpot (codes "ab") (Some 1) (Some p)) }
+{}
+
+/// Which offsets are at or after a place on a line.
+pub fn places_on_lines()
+    ensures first { is_beyond (codes "ab") 1 1 0 ≡ true }
+    ensures second { is_beyond (codes "ab") 1 2 0 ≡ false }
+    ensures end_of_a_line { is_beyond (97 ∷ 10 ∷ 98 ∷ []) 1 9 1 ≡ true }
+    ensures line_after { is_beyond (97 ∷ 10 ∷ 98 ∷ []) 1 9 2 ≡ true }
+    ensures line_before { is_beyond (10 ∷ 98 ∷ []) 2 1 0 ≡ false }
+    ensures within_a_character { is_beyond (195 ∷ 169 ∷ []) 1 1 1 ≡ false }
+    ensures end { is_beyond [] 3 3 0 ≡ true }
+    ensures name { name_of Yaml ≡ codes "YAML" }
 {}

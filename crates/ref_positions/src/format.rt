@@ -1,6 +1,6 @@
 //! How a text is written.
 ghost use Rattle.std.specs.Prelude.{◌≡◌};
-ghost use Rattle.ref_positions.specs.Formats.{format_of};
+ghost use Rattle.ref_positions.specs.Formats.{format_of, name_of};
 
 /// How a text is written.
 #[derive(Clone, Copy, Debug, Drop, PartialEq, Eq)]
@@ -24,7 +24,9 @@ impl Format {
     }
 
     /// Its name.
-    pub fn name(self) -> &'static str {
+    pub fn name(self) -> &'static str
+        ensures value { result.now ≡ name_of self }
+    {
         match self {
             Format::Json => "JSON",
             Format::Yaml => "YAML",

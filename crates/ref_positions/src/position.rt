@@ -1,7 +1,7 @@
 //! A place in a text, as a line and a column.
 ghost use Rattle.std.specs.Prelude.{◌≡◌, ◌≤◌, ◌<◌, ◌+◌, ◌-◌, ◌^◌, length};
 ghost use Rattle.std.specs.Option.{option_map_or};
-ghost use Rattle.ref_positions.specs.Lines.{line_of, column_of, unit_of, units_of, next_line, next_column, next_unit, begins_character, IsAt, IsUnitAt};
+ghost use Rattle.ref_positions.specs.Lines.{line_of, column_of, unit_of, units_of, next_line, next_column, next_unit, begins_character, is_beyond, IsAt, IsAtUnit, IsUnitAt};
 
 /// A place in a text: its offset in bytes, its line and its column. An offset is at most the text's length.
 #[derive(Clone, Copy, Debug, Drop)]
@@ -75,9 +75,10 @@ impl<'a> Position<'a> {
     /// of a character it is after that. It costs a step for each byte before it.
     pub fn at_unit(text: &'a str, line: usize, unit: usize) -> Position<'a>
         ensures text { result.text.now ≡ text.now }
+        ensures offset { IsAtUnit text.now line unit result.offset }
     {
         let mut place = Position::start(text);
-        for _ in 0..text.len() {
+        for passed in 0..text.len() {
             if place.is_beyond(line, unit) {
                 break;
             }
@@ -87,7 +88,9 @@ impl<'a> Position<'a> {
     }
 
     // Whether it is between characters, and at or after a column of a line, or at the end of that line.
-    fn is_beyond(&self, line: usize, unit: usize) -> bool {
+    fn is_beyond(&self, line: usize, unit: usize) -> bool
+        ensures value { result ≡ is_beyond self.now.text.now line unit self.now.offset }
+    {
         if self.offset >= self.text.len() {
             return true;
         }

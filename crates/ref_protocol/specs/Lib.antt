@@ -4,6 +4,7 @@ pub mod Feeding
 pub mod Frames
 pub mod Hearing
 pub mod Methods
+pub mod Pieces
 pub mod Positions
 pub mod Refusals
 pub mod Replies

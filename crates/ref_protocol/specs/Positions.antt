@@ -1,5 +1,5 @@
 -- Positions of the Language Server Protocol 3.17 in the bytes of a text: a line, and units on it, each from 0.
-use Rattle.std.specs.Prelude.{ℕ, ◌+◌, ◌-◌, ◌==◌, ◌||◌, ◌&&◌, List, [], ◌∷◌, Bool, false, not, cond, drop, nat_lt, nat_le, if◌then◌else◌}
+use Rattle.std.specs.Prelude.{ℕ, ◌+◌, ◌-◌, ◌==◌, ◌||◌, ◌&&◌, List, [], ◌∷◌, Bool, false, not, cond, drop, nat_lt, nat_le, if◌then◌else◌, bytes_eq, codes, Option, Some, None}
 use Rattle.ref_protocol.specs.declared.encoding.Encoding.{Encoding}
 use Rattle.ref_protocol.specs.declared.encoding.Encoding.TheVariants.{Utf8, Utf16, Utf32}
 
@@ -16,6 +16,19 @@ abbrev pub units_of : Encoding → ℕ → ℕ
 units_of Utf8 b = bytes_of b
 units_of Utf16 b = cond (nat_lt b 240) 1 2
 units_of Utf32 b = 1
+
+-- the name of an encoding (3.17, PositionEncodingKind)
+abbrev pub name_of : Encoding → List ℕ
+name_of Utf8 = codes "utf-8"
+name_of Utf16 = codes "utf-16"
+name_of Utf32 = codes "utf-32"
+
+-- the encoding with a name
+abbrev pub encoding_of : List ℕ → Option Encoding
+encoding_of name =
+    if bytes_eq name (name_of Utf8) then Some Utf8
+    else (if bytes_eq name (name_of Utf16) then Some Utf16
+    else (if bytes_eq name (name_of Utf32) then Some Utf32 else None))
 
 -- a line feed or a carriage return
 abbrev pub is_break : ℕ → Bool

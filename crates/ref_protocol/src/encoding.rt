@@ -15,7 +15,9 @@ pub enum Encoding {
 
 impl Encoding {
     /// Its name in the protocol.
-    pub fn name(self) -> &'static str {
+    pub fn name(self) -> &'static str
+        ensures value { result.now ≡ spec.name_of self }
+    {
         match self {
             Encoding::Utf8 => "utf-8",
             Encoding::Utf16 => "utf-16",
@@ -24,7 +26,9 @@ impl Encoding {
     }
 
     /// The one with a name.
-    pub fn from_name(name: &str) -> Option<Encoding> {
+    pub fn from_name(name: &str) -> Option<Encoding>
+        ensures value { result ≡ spec.encoding_of name.now }
+    {
         match name {
             "utf-8" => Some(Encoding::Utf8),
             "utf-16" => Some(Encoding::Utf16),

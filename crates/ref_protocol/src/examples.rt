@@ -1,9 +1,10 @@
 //! Rows of the definitions. Each function is empty: its contract states rows, and the check computes them.
 #![tactic(auto)]
 
-ghost use Rattle.std.specs.Prelude.{◌≡◌, codes, true, false, Some, None};
+ghost use Rattle.std.specs.Prelude.{◌≡◌, [], codes, true, false, Some, None};
+ghost use Rattle.ref_protocol.specs.Pieces.{is_first, with_comma};
 ghost use Rattle.ref_protocol.specs.declared.encoding.Encoding.TheVariants.{Utf8, Utf16, Utf32};
-ghost use Rattle.ref_protocol.specs.Positions.{units_of, offset_of, place_of};
+ghost use Rattle.ref_protocol.specs.Positions.{encoding_of, name_of, units_of, offset_of, place_of};
 ghost use Rattle.ref_protocol.specs.Edits.{with_range};
 ghost use Rattle.ref_protocol.specs.Frames.{frame_in};
 ghost use Rattle.ref_protocol.specs.Methods.{due_for};
@@ -92,4 +93,14 @@ pub fn calls()
     ensures a_request_as_a_notification { due_for Running (Some Hover) false ≡ Pass }
     ensures after_shutdown { due_for ShutDown (Some Hover) true ≡ Refuse AfterShutdown }
     ensures exit_after_it { due_for ShutDown (Some Exit) false ≡ Do Exit }
+{}
+
+/// The pieces of JSON that is sent.
+pub fn pieces()
+    ensures first_of_all { is_first [] ≡ true }
+    ensures first_of_a_list { is_first (codes "[") ≡ true }
+    ensures another { with_comma (codes "[1") ≡ codes "[1," }
+    ensures name { name_of Utf16 ≡ codes "utf-16" }
+    ensures encoding { encoding_of (codes "utf-32") ≡ Some Utf32 }
+    ensures none { encoding_of (codes "utf-7") ≡ None }
 {}

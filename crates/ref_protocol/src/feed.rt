@@ -116,6 +116,9 @@ impl Feed {
         ensures all { OnOk result (self.new.bytes.items ≡ bytes_left self.old) }
         ensures none { OnOk result (self.new.taken ≡ 0) }
     {
+        if self.taken == 0 {
+            return Ok(());
+        }
         let rest = Vec::from_slice(alloc, self.rest())?;
         self.bytes = rest;
         self.taken = 0;
