@@ -6,3 +6,5 @@ pub mod After
 pub mod OnLiterals
 pub mod StaysBelow
 pub mod LeadsBack
+pub mod LastSlash
+pub mod Left

@@ -2,7 +2,10 @@
 #![tactic(auto, unfolding(crate::proofs::OnLiterals::ref_files_on_literals))]
 
 ghost use Rattle.std.specs.Prelude.{◌≡◌, [], ◌∷◌, true, false, codes, Some, None};
-ghost use Rattle.ref_files.specs.Plain.{IsPlain, Lacks, slash, ends_in_slash, path_in, path_of};
+ghost use Rattle.ref_files.specs.Excluded.{is_below, is_excluded, leaves_out, unused, used};
+ghost use Rattle.ref_files.specs.Maps.{best_of};
+ghost use Rattle.ref_files.specs.Plain.{IsPlain, Lacks, slash, ends_in_slash, folder_of, last_name, path_from, path_in, path_of};
+ghost use Rattle.ref_files.specs.declared.excluded.What.TheVariants.{Nothing};
 ghost use Rattle.ref_files.specs.Meant.{AreNames, IsName, after, decoded_segments, ends_path, path_after, path_alone, uri_after, without_slashes};
 ghost use Rattle.ref_files.specs.Uris.{colon, is_kept, is_kept_first, path_text, relative_text};
 
@@ -87,4 +90,29 @@ pub fn paths()
     ensures ends { ends_in_slash (codes "f/") ≡ true }
     ensures goes_on { ends_in_slash (codes "/f") ≡ false }
     ensures empty { ends_in_slash [] ≡ false }
+{}
+
+/// What is before and after the last slash of a path, and what is at a path from a folder.
+pub fn parts_of_paths()
+    ensures folder { folder_of (codes "a/b/c") ≡ codes "a/b" }
+    ensures no_folder { folder_of (codes "a") ≡ [] }
+    ensures name { last_name (codes "a/b") ≡ codes "b" }
+    ensures all_of_it { last_name (codes "b") ≡ codes "b" }
+    ensures from_a_folder { path_from (codes "a") (codes "b") ≡ codes "a/b" }
+    ensures after_a_slash { path_from (codes "a/") (codes "b") ≡ codes "a/b" }
+    ensures absolute { path_from (codes "a") (codes "/b") ≡ codes "/b" }
+    ensures from_here { path_from [] (codes "b") ≡ codes "b" }
+{}
+
+/// What is left out, and which map counts.
+pub fn left_out()
+    ensures itself { is_below (Some []) ≡ true }
+    ensures below { is_below (Some (codes "/a")) ≡ true }
+    ensures beside { is_below (Some (codes "a")) ≡ false }
+    ensures elsewhere { is_below None ≡ false }
+    ensures by_nothing { leaves_out (codes "/a") Nothing ≡ false }
+    ensures by_none { is_excluded (codes "/a") [] ≡ false }
+    ensures none_used { used (codes "/a") [] ≡ [] }
+    ensures none_unused { unused [] ≡ [] }
+    ensures no_map { best_of (codes "https://a/b") [] ≡ None }
 {}

@@ -1,5 +1,10 @@
 //! Which files are left out: by paths and patterns, and by what Git leaves out.
+ghost use Rattle.std.specs.Prelude.{◌≡◌, ◌∷◌, ◌++◌, [], map, string_bytes, IfOk, OnOk};
+ghost use Rattle.ref_files.specs.Excluded.{is_excluded, leaves_out, unused, used};
+ghost use Rattle.ref_files.specs.Plain.{path_from};
+
 use crate::failure::Failures;
+use crate::prefix::push_name;
 use ref_patterns::{Ignore, IgnoreList, Pattern, is_pattern};
 use std::alloc::{AllocError, Global};
 use std::collections::BTreeMap;
@@ -48,7 +53,9 @@ pub struct Exclusions {
 
 impl Exclusions {
     /// None: they have no file.
-    pub fn new(alloc: Global) -> Exclusions {
+    pub fn new(alloc: Global) -> Exclusions
+        ensures value { result.list.items ≡ [] }
+    {
         Exclusions {
             alloc,
             list: Vec::new(alloc),
@@ -98,32 +105,48 @@ impl Exclusions {
     }
 
     /// Whether the file or the folder at an absolute path is left out.
-    pub fn has(&mut self, path: &str) -> Result<bool, AllocError> {
+    pub fn has(&mut self, path: &str) -> Result<bool, AllocError>
+        ensures value { IfOk result (λ is. is ≡ is_excluded path.now self.old.list.items) }
+        ensures used { OnOk result (self.new.list.items ≡ used path.now self.old.list.items) }
+    {
         let mut is_excluded = false;
-        for excluded in &mut self.list {
-            if excluded.has(self.alloc, path)? {
-                excluded.is_used = true;
-                is_excluded = true;
-            }
+        for number in 0..self.list.len() {
+            let is_left_out = self.list[number].has(self.alloc, path)?;
+            self.list[number].is_used = self.list[number].is_used || is_left_out;
+            is_excluded = is_excluded || is_left_out;
         }
         Ok(is_excluded)
     }
 
     /// Those by which nothing was left out, and that are to be told.
-    pub fn unused(self) -> Result<Vec<String>, AllocError> {
+    #[tactic(auto, using(crate::proofs::Left::unused_more))]
+    pub fn unused(self) -> Result<Vec<String>, AllocError>
+        ensures value { IfOk result (λ list. map string_bytes list.items ≡ unused self.list.items) }
+    {
         let mut unused = Vec::new(self.alloc);
         for excluded in self.list {
-            if !excluded.is_used && excluded.is_told {
-                unused.push(excluded.given)?;
-            }
+            excluded.push_unused(&mut unused)?;
         }
         Ok(unused)
     }
 }
 
 impl Excluded {
+    // Adds what was given, where it left out nothing and is to be told.
+    fn push_unused(self, list: &mut Vec<String>) -> Result<(), AllocError>
+        ensures value { OnOk result (map string_bytes list.new.items
+            ≡ map string_bytes list.old.items ++ unused (self ∷ [])) }
+    {
+        if !self.is_used && self.is_told {
+            list.push(self.given)?;
+        }
+        Ok(())
+    }
+
     // Whether it has the file or the folder at a path.
-    fn has(&self, alloc: Global, path: &str) -> Result<bool, AllocError> {
+    fn has(&self, alloc: Global, path: &str) -> Result<bool, AllocError>
+        ensures value { IfOk result (λ is. is ≡ leaves_out path.now self.now.what) }
+    {
         match &self.what {
             What::Nothing => Ok(false),
             What::Path(own) => Ok(match path.strip_prefix(own.as_str()) {
@@ -167,12 +190,15 @@ fn with_slash(path: String) -> Result<String, AllocError> {
 }
 
 /// The path of what is at a path from a folder, which is empty for the working folder.
-pub fn path_from(alloc: Global, folder: &str, path: &str) -> Result<String, AllocError> {
+pub fn path_from(alloc: Global, folder: &str, path: &str) -> Result<String, AllocError>
+    ensures value { IfOk result (λ found. string_bytes found ≡ path_from folder.now path.now) }
+{
     if folder.is_empty() || path.starts_with('/') {
         return String::from_str(alloc, path);
     }
-    let slash = if folder.ends_with('/') { "" } else { "/" };
-    [folder, slash, path].join(alloc, "")
+    let mut found = String::from_str(alloc, folder)?;
+    push_name(&mut found, path)?;
+    Ok(found)
 }
 
 /// What Git leaves out of the folders that are looked through: by the files `.gitignore` in them and around them, in a repository.

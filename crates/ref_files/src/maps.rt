@@ -1,4 +1,10 @@
 //! Documents that are read from folders by their URIs.
+ghost use Rattle.std.specs.Prelude.{◌≡◌, ◌==◌, ◌∷◌, ◌++◌, [], length, nat_lt, string_bytes, true, vec_len, IfOk, IfSome, OnErr, OnOk};
+ghost use Rattle.std.specs.Option.{option_map_or};
+ghost use Rattle.ref_files.specs.Maps.{best_of, is_base, IsMeant};
+ghost use Rattle.ref_files.specs.Meant.{decoded_segments, AreNames};
+ghost use Rattle.ref_files.specs.Plain.{path_of};
+
 use crate::failure::Failures;
 use crate::name::names_of;
 use crate::prefix::{below_prefix, path_below};
@@ -76,7 +82,9 @@ fn push_broken(list: &mut Vec<BrokenFile>, file: BrokenFile) -> Result<(), Alloc
 
 impl<'r> Maps<'r> {
     /// None.
-    pub fn new(rt: &'r HostRuntime) -> Maps<'r> {
+    pub fn new(rt: &'r HostRuntime) -> Maps<'r>
+        ensures value { result.maps.items ≡ [] }
+    {
         Maps {
             rt,
             maps: Vec::new(rt.alloc()),
@@ -104,18 +112,27 @@ impl<'r> Maps<'r> {
     }
 
     /// Adds one.
-    pub fn push(&mut self, map: Map) -> Result<(), AllocError> {
+    pub fn push(&mut self, map: Map) -> Result<(), AllocError>
+        ensures ok { OnOk result (self.new.maps.items ≡ self.old.maps.items ++ map ∷ []) }
+        ensures err { OnErr result (self.new.maps.items ≡ self.old.maps.items) }
+    {
         self.maps.push(map)?;
         Ok(())
     }
 
     /// Whether there is none.
-    pub fn is_empty(&self) -> bool {
+    pub fn is_empty(&self) -> bool
+        ensures value { result ≡ (vec_len self.now.maps == 0) }
+    {
         self.maps.is_empty()
     }
 
     /// The path of the file that a URI means, by the longest prefix, where there is one.
-    pub fn path_of(&self, alloc: Global, uri: &str) -> Result<Option<String>, AllocError> {
+    #[tactic(auto, using(crate::proofs::Left::one_more))]
+    pub fn path_of(&self, alloc: Global, uri: &str) -> Result<Option<String>, AllocError>
+        ensures found { IfOk result (λ found. IfSome found
+            (λ path. IsMeant (best_of uri.now self.now.maps.items) (string_bytes path))) }
+    {
         let mut best: Option<(&Map, &str)> = None;
         for map in &self.maps {
             if let Some(rest) = below_prefix(map.prefix.as_str(), uri) {
@@ -136,7 +153,12 @@ impl<'r> Maps<'r> {
         alloc: Global,
         folder: &str,
         rest: &str,
-    ) -> Result<Option<String>, AllocError> {
+    ) -> Result<Option<String>, AllocError>
+        ensures names { IfOk result
+            (λ found. IfSome found (λ _. AreNames (decoded_segments rest.now))) }
+        ensures path { IfOk result (λ found. IfSome found
+            (λ path. string_bytes path ≡ path_of folder.now (decoded_segments rest.now))) }
+    {
         let Some(names) = names_of(alloc, rest)? else {
             return Ok(None);
         };
@@ -218,7 +240,9 @@ impl<'r> Maps<'r> {
 }
 
 /// Whether documents can be under a URI: an absolute one without a query and a fragment.
-pub fn is_base(base: &str) -> bool {
+pub fn is_base(base: &str) -> bool
+    ensures value { result ≡ is_base base.now }
+{
     match UriRef::parse(base) {
         Ok(uri) => uri.has_scheme() && !uri.has_fragment() && uri.query().is_none(),
         Err(_) => false,
@@ -240,7 +264,11 @@ fn unmarked(alloc: Global, text: String) -> Result<String, AllocError> {
     }
 }
 
-fn is_longer(map: &Map, best: &Option<(&Map, &str)>) -> bool {
+fn is_longer(map: &Map, best: &Option<(&Map, &str)>) -> bool
+    ensures value { result
+        ≡ option_map_or (λ b. nat_lt (length (string_bytes b.0.now.prefix)) (length (string_bytes map.now.prefix)))
+        best.now true }
+{
     match best {
         Some((other, _)) => map.prefix.len() > other.prefix.len(),
         None => true,

@@ -49,7 +49,8 @@ pub fn path_below(alloc: Global, folder: &str, names: &[Name]) -> Result<String,
     Ok(path)
 }
 
-fn push_name(path: &mut String, name: &str) -> Result<(), AllocError>
+// Adds a name to a path, after one slash.
+pub(crate) fn push_name(path: &mut String, name: &str) -> Result<(), AllocError>
     ensures value { OnOk result (string_bytes path.new ≡ path_in (string_bytes path.old) name.now) }
 {
     if !path.as_str().ends_with('/') {

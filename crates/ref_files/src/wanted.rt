@@ -21,8 +21,11 @@ struct Search<'v, 'w> {
     waiting: Vec<Step<'v>>,
 }
 
-/// Adds those files to the ones that are read which these refer to: by a text under `$ref` anywhere in one that is read or is added, by the
-/// identifiers around it. Fails only if out of memory. Where none is passed over nothing is visited, and else each value once.
+// The keys under which a text may refer to a file.
+const KEYS: [&str; 3] = ["$ref", "$dynamicRef", "operationRef"];
+
+/// Adds those files to the ones that are read which these refer to: by a text under `$ref`, `$dynamicRef` or `operationRef`, or in the mapping of a discriminator,
+/// anywhere in one that is read or is added, by the identifiers around it. Fails only if out of memory. Where none is passed over nothing is visited, and else each value once.
 pub(crate) fn add_wanted(
     alloc: Global,
     files: &[ReadFile],
@@ -104,11 +107,28 @@ impl<'v, 'w> Search<'v, 'w> {
         outer: usize,
     ) -> Result<(), AllocError> {
         let base = self.base_of(members, outer)?;
-        if let Some(text) = text_under(members, "$ref") {
-            self.want(text, base)?;
+        for key in KEYS {
+            if let Some(text) = text_under(members, key) {
+                self.want(text, base)?;
+            }
+        }
+        if let Some(discriminator) = members.get("discriminator") {
+            self.want_mapped(discriminator, base)?;
         }
         for (_, value) in members {
             self.push(value, base)?;
+        }
+        Ok(())
+    }
+
+    // Adds the files that the mapping of a discriminator refers to.
+    fn want_mapped(&mut self, discriminator: &'v Value, base: usize) -> Result<(), AllocError> {
+        if let Some(mapping) = discriminator.get("mapping").and_then(Value::as_object) {
+            for (_, text) in mapping {
+                if let Some(text) = text.as_str() {
+                    self.want(text, base)?;
+                }
+            }
         }
         Ok(())
     }
@@ -121,9 +141,10 @@ impl<'v, 'w> Search<'v, 'w> {
         Ok(())
     }
 
-    // The number of the base URI of an object: that of its identifier, where it has one.
+    // The number of the base URI of an object: that of its identifier, where it has one, or in a description of its `$self`.
     fn base_of(&mut self, members: &Map<String, Value>, outer: usize) -> Result<usize, AllocError> {
-        let Some(id) = text_under(members, "$id").or(text_under(members, "id")) else {
+        let id = text_under(members, "$id").or(text_under(members, "id"));
+        let Some(id) = id.or(text_under(members, "$self")) else {
             return Ok(outer);
         };
         let Some(uri) = self.resolved(id, outer)? else {
