@@ -6,3 +6,4 @@ mod parse;
 mod place;
 
 pub use parse::{Configuration, Level, Override, Refusal};
+pub use place::place_of;

@@ -5,7 +5,7 @@ use toml::{Table, Value};
 /// The line and the column, from 1, at which a member begins of what a path of keys leads to: the first line that isn't blank and no comment after the longest
 /// beginning of the text that is TOML and doesn't have it. It reads each beginning that ends with a line, so it costs the square of the text, and is
 /// asked only where something is wrong.
-pub(crate) fn place_of(
+pub fn place_of(
     alloc: Global,
     text: &str,
     above: &[&str],

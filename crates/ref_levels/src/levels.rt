@@ -2,11 +2,12 @@
 use clap::ArgMatches;
 use ref_command_line::options::list_of;
 use ref_command_line::{Configured, Stop, say_failures};
-use ref_configuration::Level as Set;
+use ref_configuration::{Level as Set, place_of};
 use ref_files::{Exclusion, Exclusions, Failures};
 use ref_messages::{Chosen, Level, Plain, Suggester, level_in};
 use ref_workspace::RULES;
 use std::alloc::AllocError;
+use std::{fs, io};
 
 /// The levels that rules are set to: by the configuration, then by its overrides for some files, and then by the command line.
 #[derive(Drop)]
@@ -31,11 +32,12 @@ impl Levels {
         configured: &Configured,
     ) -> Result<Levels, Stop> {
         let configuration = &configured.configuration;
-        let first = chosen_of(rt, configured, configuration.rules.as_slice())?;
+        let first = chosen_of(rt, configured, &["rules"], configuration.rules.as_slice())?;
         let mut overrides = Vec::new(rt.alloc());
         for one in &configuration.overrides {
             let files = files_of(rt, configured, one.files.as_slice())?;
-            let choices = chosen_of(rt, configured, one.rules.as_slice())?;
+            let rules = one.rules.as_slice();
+            let choices = chosen_of(rt, configured, &["override", "rules"], rules)?;
             push_levels(&mut overrides, FileLevels { files, choices })?;
         }
         let last = choices_of(rt, given)?;
@@ -72,11 +74,11 @@ impl Levels {
                 .any(|one| has(one.choices.as_slice(), code))
     }
 
-    /// Adds what is set as parts of a configuration, without overrides.
+    /// Adds what is set as parts of a configuration, without overrides: a rule that they alone set is not there.
     pub fn push(&self, out: &mut String) -> Result<(), AllocError> {
         out.push_str("[rules]\n")?;
         for rule in RULES {
-            if self.has(rule.code) {
+            if has(self.first.as_slice(), rule.code) || has(self.last.as_slice(), rule.code) {
                 let level = level_in(self.first.as_slice(), rule.code, None);
                 let level = level_in(self.last.as_slice(), rule.code, level);
                 let name = match level {
@@ -126,21 +128,18 @@ fn files_of(
     Ok(files)
 }
 
-// What a configuration sets rules to.
+// What a configuration sets rules to, in the table at a path of keys.
 fn chosen_of(
     rt: &HostRuntime,
     configured: &Configured,
+    above: &[&str],
     levels: &[Set],
 ) -> Result<Vec<Chosen<'static>>, Stop> {
     let mut choices = Vec::new(rt.alloc());
     for set in levels {
         let code = set.rule.as_str();
         let Some(own) = rule_named(code) else {
-            let name = match &configured.name {
-                Some(name) => name.as_str(),
-                None => "",
-            };
-            say_unknown(rt, name, code)?;
+            say_unknown_in(rt, configured, above, code)?;
             return Err(Stop::Reported);
         };
         push(&mut choices, own, level_of(set.level.as_str()))?;
@@ -168,7 +167,12 @@ fn choices_of(rt: &HostRuntime, given: &ArgMatches<'_>) -> Result<Vec<Chosen<'st
             return Err(Stop::Reported);
         };
         let Some(own) = rule_named(chosen.code) else {
-            say_unknown(rt, text, chosen.code)?;
+            let _ = eprintln!(rt;
+                "patchsard: --rule {}: there is no rule '{}'",
+                Plain(text),
+                Plain(chosen.code)
+            );
+            say_rules(rt, chosen.code)?;
             return Err(Stop::Reported);
         };
         push(&mut choices, own, chosen.level)?;
@@ -195,13 +199,41 @@ fn rule_named(code: &str) -> Option<&'static str> {
     None
 }
 
-// Says that there is no such rule, and which may be meant.
-fn say_unknown(rt: &HostRuntime, text: &str, code: &str) -> Result<(), AllocError> {
-    let _ = eprintln!(rt;
-        "patchsard: --rule {}: there is no rule '{}'",
-        Plain(text),
-        Plain(code)
-    );
+// Says that a configuration sets a rule that there isn't, with its line and column, where its file can still be read. The rule is in the table at a path of keys.
+fn say_unknown_in(
+    rt: &HostRuntime,
+    configured: &Configured,
+    above: &[&str],
+    code: &str,
+) -> Result<(), Stop> {
+    let name = match &configured.name {
+        Some(name) => name.as_str(),
+        None => "",
+    };
+    match fs::read_to_string(rt, name) {
+        Ok(text) => {
+            let (line, column) = place_of(rt.alloc(), text.as_str(), above, code)?;
+            let _ = eprintln!(rt;
+                "patchsard: {}:{line}:{column}: there is no rule '{}'",
+                Plain(name),
+                Plain(code)
+            );
+        }
+        Err(error) if error.kind() == io::ErrorKind::OutOfMemory => return Err(Stop::Memory),
+        Err(_) => {
+            let _ = eprintln!(rt;
+                "patchsard: {}: there is no rule '{}'",
+                Plain(name),
+                Plain(code)
+            );
+        }
+    }
+    say_rules(rt, code)?;
+    Ok(())
+}
+
+// Says which rule may be meant by a name, or else which there are.
+fn say_rules(rt: &HostRuntime, code: &str) -> Result<(), AllocError> {
     let mut suggester = Suggester::new(65_536);
     suggester.begin();
     for rule in RULES {
