@@ -1,6 +1,7 @@
 //! Findings as messages.
 use crate::documents::{meant_document, other_uri};
 use crate::finding::{Finding, Problem};
+use crate::named::Named;
 use crate::resources::Resources;
 use crate::rules::code_of;
 use crate::spots::{Spots, first_of, spots_of};
@@ -21,6 +22,7 @@ use ref_parts::pointer_of;
 use ref_positions::line_and_column;
 use ref_uri::Uri;
 use std::alloc::{AllocError, Global};
+use std::collections::BTreeMap;
 
 // How many steps suggestions may take in all.
 const STEPS: usize = 3_200_000;
@@ -41,6 +43,8 @@ pub struct Describer<'l, 'd> {
     // What references may mean, once something is to be suggested.
     resources: Option<Resources<'d>>,
     suggester: Suggester,
+    // Where identifiers and anchors are in the documents with these numbers, once something is to be said of a reference to one.
+    named: BTreeMap<usize, Named>,
 }
 
 impl<'l, 'd> Describer<'l, 'd> {
@@ -63,6 +67,7 @@ impl<'l, 'd> Describer<'l, 'd> {
             near: None,
             resources: None,
             suggester: Suggester::new(STEPS),
+            named: BTreeMap::new(alloc),
         })
     }
 
@@ -176,6 +181,9 @@ impl<'l, 'd> Describer<'l, 'd> {
             Problem::WrongKind { is, wanted, .. } => {
                 wrong_kind_text(self.alloc, finding.text.unwrap_or(""), *is, *wanted)
             }
+            Problem::NoObject { is, wanted } => {
+                no_object_text(self.alloc, finding.text.unwrap_or(""), is, *wanted)
+            }
             Problem::NotASchema { is, draft } => {
                 no_schema_text(self.alloc, finding.text.unwrap_or(""), is, *draft)
             }
@@ -211,6 +219,10 @@ impl<'l, 'd> Describer<'l, 'd> {
             Plain::MissingDocument { uri } => {
                 ["Document '", uri.as_str(), "' is not among the given files"].join(alloc, "")
             }
+            Plain::Unchecked { uri } if self.is_here(uri) => String::from_str(
+                alloc,
+                "Anchors of a description are looked for below identifiers alone: the fragment is not checked",
+            ),
             Plain::Unchecked { uri } => [
                 "Meta-schema '",
                 uri.as_str(),
@@ -236,6 +248,23 @@ impl<'l, 'd> Describer<'l, 'd> {
                 alloc,
                 "The file names no draft and is read as Draft 2020-12, where items is one schema, not a list",
             ),
+        }
+    }
+
+    // Whether a document is there under a URI.
+    fn is_here(&self, uri: &Uri) -> bool {
+        for number in 0..self.workspace.len() {
+            if self.is_at(number, uri) {
+                return true;
+            }
+        }
+        false
+    }
+
+    fn is_at(&self, number: usize, uri: &Uri) -> bool {
+        match self.workspace.uri(number) {
+            Some(own) => own.as_str() == uri.as_str(),
+            None => false,
         }
     }
 
@@ -324,8 +353,8 @@ impl<'l, 'd> Describer<'l, 'd> {
         )
     }
 
-    /// What to do about the finding that is listed at a place: where a document is missing, and another one has its name, or where a draft is
-    /// guessed.
+    /// What to do about the finding that is listed at a place: where a document is missing, and another one has its name; where the file itself has
+    /// the identifier or the anchor that is missing, but where it counts for nothing; or where a draft is guessed.
     pub fn help(&mut self, place: usize) -> Result<Option<String>, AllocError> {
         match self.finding(place) {
             Some(finding) => self.help_on(finding),
@@ -338,13 +367,9 @@ impl<'l, 'd> Describer<'l, 'd> {
             return told_help(self.alloc, finding, *told, *draft);
         }
         match finding.problem.plain() {
-            Some(Plain::MissingDocument { uri }) => {
-                other_uri(
-                    self.alloc,
-                    &mut self.suggester,
-                    self.workspace,
-                    uri.as_str(),
-                )
+            Some(Plain::MissingDocument { uri }) => self.help_on_document(finding.source, uri),
+            Some(Plain::LeadsNowhere { uri, error }) => {
+                self.help_on_anchor(finding.source, uri, error)
             }
             Some(Plain::GuessedDraft { draft, .. }) => {
                 let help = ["--draft ", draft.name(), ", or a $schema in the file"];
@@ -356,6 +381,45 @@ impl<'l, 'd> Describer<'l, 'd> {
             }
             _ => Ok(None),
         }
+    }
+
+    // What to do where no document has a URI: another file may be meant, or the file itself has the identifier where it counts for nothing.
+    fn help_on_document(&mut self, source: usize, uri: &Uri) -> Result<Option<String>, AllocError> {
+        let (alloc, workspace) = (self.alloc, self.workspace);
+        let text = uri.as_str();
+        if let Some(help) = other_uri(alloc, &mut self.suggester, workspace, text)? {
+            return Ok(Some(help));
+        }
+        match self.named_in(source)? {
+            Some(named) => named.said_of_identifier(alloc, uri),
+            None => Ok(None),
+        }
+    }
+
+    // The same where a document has no such anchor.
+    fn help_on_anchor(
+        &mut self,
+        source: usize,
+        uri: &Uri,
+        error: &Error,
+    ) -> Result<Option<String>, AllocError> {
+        let Error::NoSuchAnchor { anchor } = error else {
+            return Ok(None);
+        };
+        let alloc = self.alloc;
+        match self.named_in(source)? {
+            Some(named) => named.said_of_anchor(alloc, uri, anchor.as_str()),
+            None => Ok(None),
+        }
+    }
+
+    // Where identifiers and anchors are in the document with a number.
+    fn named_in(&mut self, source: usize) -> Result<Option<&Named>, AllocError> {
+        if self.named.get(&source).is_none() {
+            let named = Named::of(self.alloc, self.workspace, source)?;
+            self.named.insert(source, named)?;
+        }
+        Ok(self.named.get(&source))
     }
 
     fn first(&self, number: usize, finding: &Finding<'_>) -> Result<Option<Other>, AllocError> {
@@ -471,12 +535,25 @@ fn description_text(
         Some("swagger") => "Swagger",
         _ => "AsyncAPI",
     };
+    if version.is_none() {
+        return unquoted_text(alloc, name);
+    }
     [
         "This is a description of ",
         name,
         " ",
         version.unwrap_or(""),
         ": only its references in JSON Schema places were checked",
+    ]
+    .join(alloc, "")
+}
+
+// The same where the version is no text, as a number in YAML.
+fn unquoted_text(alloc: Global, name: &str) -> Result<String, AllocError> {
+    [
+        "This is a description of ",
+        name,
+        ", whose version is no text: write it in quotes. Only its references in JSON Schema places were checked",
     ]
     .join(alloc, "")
 }
@@ -506,6 +583,25 @@ fn wrong_kind_text(
         with_article(alloc, is.name())?.as_str(),
         ", and ",
         with_article(alloc, wanted.name())?.as_str(),
+        " is needed",
+    ]
+    .join(alloc, "")
+}
+
+fn no_object_text(
+    alloc: Global,
+    reference: &str,
+    is: &str,
+    wanted: Kind,
+) -> Result<String, AllocError> {
+    let wanted = with_article(alloc, wanted.name())?;
+    [
+        "'",
+        reference,
+        "' is ",
+        is,
+        ", and ",
+        wanted.as_str(),
         " is needed",
     ]
     .join(alloc, "")

@@ -1,8 +1,11 @@
 //! The descriptions among the documents of a workspace: what is wrong with their references, and where these are.
 use crate::endless::{Link, add_links};
 use crate::finding::{Finding, Problem, push};
+use crate::leads::{NoObject, add_all_no_objects, add_no_objects};
 use crate::led::add_led_places;
 use crate::placed::Placed;
+use crate::pointer::path_to;
+use crate::ruled::{ToldAt, add_told_at};
 use crate::workspace::Workspace;
 use crate::world::fragment_of;
 use ref_descriptions::{Reading, Under, references, version_of};
@@ -20,6 +23,7 @@ use serde_json::Value;
 use std::alloc::{AllocError, Global};
 use std::borrow::CowStr;
 use std::collections::BTreeSet;
+use std::mem::swap;
 use std::rc::Rc;
 
 /// Which documents of a workspace are descriptions or parts of them, and how much there is in these.
@@ -41,6 +45,10 @@ pub(crate) struct Described {
     there: Vec<bool>,
     /// Where it is wanted, which references lead where, as far as they were looked at.
     pub links: Option<Vec<Link>>,
+    // Where it is wanted, which references of descriptions lead to what is no object.
+    no_objects: Option<Vec<NoObject>>,
+    // What is told of places that references of schemas lead to.
+    told: Vec<ToldAt>,
 }
 
 /// What is wrong with a reference in the document with a number, at a path.
@@ -159,6 +167,8 @@ impl Described {
             is_led: false,
             there: Vec::from_slice(alloc, there)?,
             links: None,
+            no_objects: None,
+            told: Vec::new(alloc),
         };
         for number in 0..workspace.len() {
             let is_there = described.has(number);
@@ -228,6 +238,38 @@ impl Described {
         }
     }
 
+    /// Adds what is told of places that references of schemas lead to, of those in documents that are asked about.
+    pub fn add_told<'r>(
+        &mut self,
+        alloc: Global,
+        asked: usize,
+        numbers: &[usize],
+        places: &[Place<'r>],
+    ) -> Result<(), AllocError> {
+        add_told_at(alloc, asked, numbers, places, &mut self.told)
+    }
+
+    /// What is told of these, which is given away.
+    pub fn take_told(&mut self, alloc: Global) -> Vec<ToldAt> {
+        let mut told = Vec::new(alloc);
+        swap(&mut self.told, &mut told);
+        told
+    }
+
+    // Adds which references of places lead to what is no object, where that is wanted.
+    fn add_no_objects<'r>(
+        &mut self,
+        alloc: Global,
+        numbers: &[usize],
+        documents: &Documents<'r>,
+        places: &[Place<'r>],
+    ) -> Result<(), AllocError> {
+        match &mut self.no_objects {
+            Some(list) => add_no_objects(alloc, numbers, documents, places, list),
+            None => Ok(()),
+        }
+    }
+
     // By the numbers of the documents, whether one is a description or a part.
     fn into_flags(self) -> Vec<bool> {
         self.is_described
@@ -279,10 +321,14 @@ pub(crate) fn add_described<'d>(
     if !described.is_any() {
         return Ok(());
     }
+    described.no_objects = Some(Vec::new(alloc));
     for fault in faults_of(alloc, workspace, described)? {
         add_fault(workspace, fault, list)?;
     }
-    Ok(())
+    match described.no_objects.take() {
+        Some(found) => add_all_no_objects(alloc, workspace, found, list),
+        None => Ok(()),
+    }
 }
 
 // What is wrong with the references of descriptions, in any document.
@@ -317,6 +363,8 @@ fn faults_among<'d, 'r>(
     described.note_reached(alloc, asked, numbers, documents.own(), &reached)?;
     described.add_links(alloc, numbers, documents, documents.own())?;
     described.add_links(alloc, numbers, documents, reached.places.as_slice())?;
+    described.add_no_objects(alloc, numbers, documents, documents.own())?;
+    described.add_no_objects(alloc, numbers, documents, reached.places.as_slice())?;
     faults_in(alloc, numbers, documents.own(), reached)
 }
 
@@ -740,6 +788,22 @@ fn own_path<'d>(
         path.push(JsonPointerSegment::from("mapping"))?;
     }
     Ok(path)
+}
+
+/// The path that a pointer means in a value, with keys of its own, where it leads to one (RFC 6901, 4).
+pub(crate) fn owned_path_to<'d>(
+    alloc: Global,
+    root: &Value,
+    pointer: &str,
+) -> Result<Option<Vec<JsonPointerSegment<'d>>>, AllocError> {
+    let Some(path) = path_to(alloc, Some(root), pointer)? else {
+        return Ok(None);
+    };
+    let mut own = Vec::with_capacity(alloc, path.len())?;
+    for segment in &path {
+        own.push(owned(alloc, segment)?)?;
+    }
+    Ok(Some(own))
 }
 
 /// A step with a key of its own.

@@ -63,6 +63,13 @@ pub enum Problem<'d> {
         /// What it is to be.
         wanted: Kind,
     },
+    /// A reference of a description leads to what is no object.
+    NoObject {
+        /// What it is, with its article.
+        is: &'static str,
+        /// The kind that is needed.
+        wanted: Kind,
+    },
     /// A reference of a schema leads to what is no schema.
     NotASchema {
         /// What it leads to, with its article, as `an array`.
@@ -116,8 +123,8 @@ impl<'d> Problem<'d> {
     pub fn level(&self) -> Level {
         match self {
             Problem::Plain(problem) => problem.level(),
-            Problem::WrongKind { .. } | Problem::NotASchema { .. } | Problem::Endless { .. } =>
-                Level::Error,
+            Problem::WrongKind { .. } | Problem::NoObject { .. } => Level::Error,
+            Problem::NotASchema { .. } | Problem::Endless { .. } => Level::Error,
             Problem::Repeated { .. } | Problem::OtherCase { .. } => Level::Warning,
             Problem::Unused => Level::Note,
             Problem::Told { told, .. } => level_of(*told),

@@ -375,7 +375,8 @@ fn is_bare(uri: &str) -> bool {
     }
 }
 
-fn is_identifier(key: &str) -> bool {
+/// Whether a member with this name may be an identifier or an anchor in some draft, or in a description.
+pub(crate) fn is_identifier(key: &str) -> bool {
     match key.as_bytes().first() {
         Some(b'$') => matches!(
             key,

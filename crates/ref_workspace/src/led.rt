@@ -53,9 +53,22 @@ pub(crate) fn add_led<'d>(
 /// The URIs of documents that references of what schemas lead to point into and that aren't there, in the order in which they are met; a URI
 /// may come more than once. Fails only if out of memory.
 pub(crate) fn missing_led(alloc: Global, workspace: &Workspace) -> Result<Vec<Uri>, AllocError> {
-    let mut described = Described::of(alloc, workspace)?;
-    let Led { faults, .. } = led_of(alloc, workspace, &mut described, true)?;
-    drop(described);
+    let described = Described::of(alloc, workspace)?;
+    let numbered = numbered_sources(alloc, workspace, &described)?;
+    missing_by(alloc, workspace, &numbered, &described)
+}
+
+fn missing_by(
+    alloc: Global,
+    workspace: &Workspace,
+    numbered: &Numbered<'_>,
+    described: &Described,
+) -> Result<Vec<Uri>, AllocError> {
+    let documents = documents_of(alloc, workspace.draft(), numbered.sources.as_slice())?;
+    let numbers = numbered.numbers.as_slice();
+    let schemas = schemas_among(alloc, workspace, numbers, &documents, described)?;
+    let reached = reach_schemas(alloc, &documents, &schemas)?;
+    let faults = faults_in(alloc, numbers, schemas.places(), reached)?;
     missing_in(alloc, workspace, faults.as_slice())
 }
 
@@ -161,6 +174,7 @@ fn led_among<'d, 'r>(
     let references = references_in(alloc, asked, numbers, places, described)?;
     no_schemas_in(alloc, asked, numbers, documents, places, &mut no_schemas)?;
     described.add_links(alloc, numbers, documents, places)?;
+    described.add_told(alloc, asked, numbers, places)?;
     let faults = faults_in(alloc, numbers, own, reached)?;
     let faults = each_once(alloc, faults)?;
     Ok(Led {

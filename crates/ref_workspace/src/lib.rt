@@ -17,6 +17,7 @@ mod heads;
 mod leads;
 mod led;
 mod members;
+mod named;
 pub mod near;
 mod parts;
 mod placed;

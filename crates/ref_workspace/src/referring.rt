@@ -119,7 +119,7 @@ fn visit_member<'v>(
 }
 
 /// The keys whose values have keys that somebody gave.
-pub(crate) const NAMED: [&str; 18] = [
+pub(crate) const NAMED: [&str; 22] = [
     "properties",
     "patternProperties",
     "$defs",
@@ -136,8 +136,13 @@ pub(crate) const NAMED: [&str; 18] = [
     "callbacks",
     "pathItems",
     "paths",
+    "webhooks",
+    "additionalOperations",
     "content",
     "encoding",
+    "mediaTypes",
+    // Of a description, in which these are objects; the examples of a schema are a list.
+    "examples",
 ];
 
 /// Whether nothing in the value under a key refers to something.

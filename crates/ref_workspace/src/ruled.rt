@@ -1,5 +1,5 @@
 //! What is told of the keywords of schemas, wherever their references lead.
-use crate::described::Described;
+use crate::described::{Described, owned_path_to, pointer_at, texts_at};
 use crate::finding::{Finding, Problem, push};
 use crate::placed::push_below as push_values;
 use crate::workspace::{Document, Workspace};
@@ -7,9 +7,11 @@ use ref_draft::Draft;
 use ref_findings::{Finding as SchemaFinding, Problem as SchemaProblem};
 use ref_index::meanings::text_under;
 use ref_parts::path::JsonPointerSegment;
-use ref_rules::{Place, Slip, misspelled, slips};
+use ref_reach::Place as Reached;
+use ref_rules::{Place, Problem as ToldProblem, Slip, misspelled, slips};
 use serde_json::Value;
 use std::alloc::{AllocError, Global};
+use std::collections::BTreeSet;
 
 /// Findings but for those on a `$schema` that is known to none and means a draft: what is told of it says which. Fails only if out of memory.
 pub(crate) fn without_misspelled<'d>(
@@ -82,60 +84,109 @@ fn add_of<'d>(
         return Ok(());
     }
     let spots = spots_of(alloc, draft, value)?;
-    let places = places_of(alloc, spots.as_slice())?;
+    let numbers = suspects_in(alloc, spots.as_slice())?;
+    let places = places_of(alloc, spots.as_slice(), numbers.as_slice())?;
     for slip in slips(alloc, places.as_slice())? {
-        push_told(alloc, number, spots.as_slice(), slip, list)?;
+        if let Some(place) = numbers.get(slip.place).copied() {
+            push_told(
+                alloc,
+                number,
+                spots.as_slice(),
+                Slip { place, ..slip },
+                list,
+            )?;
+        }
     }
     Ok(())
 }
 
-// Whether a document may have what is told of: it is of an earlier draft than 2019-09, or it has a member, at any depth, that is a `$schema` but for that
-// at its root, or a keyword of which the newer drafts don't have each, or its own `$schema` isn't the URI of its draft. A step for each value.
+// Whether a document may have what is told of: its own `$schema` isn't the URI of its draft, or a value in it, at any depth, may be told of, were it a schema. A
+// step for each value.
 fn may_be_told(alloc: Global, draft: Draft, root: &Value) -> Result<bool, AllocError> {
-    if !matches!(draft.detect(root), Draft::Draft201909 | Draft::Draft202012) {
-        return Ok(true);
-    }
     if let Some(text) = text_under(root, "$schema") {
         if misspelled(alloc, text)?.is_some() {
             return Ok(true);
         }
     }
-    let own = if root.get("$schema").is_some() { 1 } else { 0 };
-    Ok(suspects_in(alloc, root)? > own)
-}
-
-// How many members of a value, at any depth, are a `$schema`, or a keyword of which the newer drafts don't have each.
-fn suspects_in(alloc: Global, root: &Value) -> Result<usize, AllocError> {
+    let draft = draft.detect(root);
+    let mut is_root = true;
     let mut waiting = Vec::new(alloc);
     waiting.push(root)?;
-    let mut count: usize = 0;
     for _ in 0..u64::MAX {
         let Some(value) = waiting.pop() else {
             break;
         };
-        if let Some(members) = value.as_object() {
-            for (key, _) in members.iter() {
-                if is_suspect(key.as_str()) {
-                    count = count.saturating_add(1);
-                }
-            }
+        if is_suspect(value, draft, is_root) {
+            return Ok(true);
         }
+        is_root = false;
         push_values(&mut waiting, value)?;
     }
-    Ok(count)
+    Ok(false)
 }
 
-// Whether a keyword is a `$schema`, or one that the newer drafts don't have each.
-fn is_suspect(key: &str) -> bool {
-    match key.as_bytes().first() {
-        Some(b'$') => matches!(
-            key,
-            "$schema" | "$recursiveRef" | "$recursiveAnchor" | "$dynamicRef" | "$dynamicAnchor"
-        ),
-        Some(b'i') => key == "id",
-        Some(b'p') => key == "prefixItems",
+// Whether something may be told of a value, were it a schema of a draft, beside how a `$schema` at a root is spelled: it has a `$schema` and is no root, a keyword
+// that another draft has, or, in an earlier one, a `$ref` with others beside it.
+fn is_suspect(value: &Value, draft: Draft, is_root: bool) -> bool {
+    let Some(members) = value.as_object() else {
+        return false;
+    };
+    for (key, _) in members.iter() {
+        let is_here = match key.as_str() {
+            "$ref" => is_earlier(draft) && members.len() > 1,
+            "$schema" => !is_root,
+            key => is_of_others(key, draft),
+        };
+        if is_here {
+            return true;
+        }
+    }
+    false
+}
+
+// Whether another draft has a keyword, and this one doesn't. Most keywords are told apart by their first letters.
+fn is_of_others(key: &str, draft: Draft) -> bool {
+    match key.as_bytes() {
+        [b'$', ..] => is_core_of_others(key, draft),
+        [b'c' | b'd' | b'e' | b't' | b'i' | b'p', ..] => is_applied_of_others(key, draft),
+        [b'm' | b'u', ..] => is_earlier(draft) && is_counted(key),
         _ => false,
     }
+}
+
+// The same of those that begin with `$`.
+fn is_core_of_others(key: &str, draft: Draft) -> bool {
+    match key {
+        "$id" => draft == Draft::Draft4,
+        "$anchor" => is_earlier(draft),
+        "$recursiveRef" | "$recursiveAnchor" => draft != Draft::Draft201909,
+        "$dynamicRef" | "$dynamicAnchor" => draft != Draft::Draft202012,
+        _ => false,
+    }
+}
+
+// The same of `id` and of those that have schemas in them.
+fn is_applied_of_others(key: &str, draft: Draft) -> bool {
+    match key {
+        "id" => draft != Draft::Draft4,
+        "const" | "contains" | "propertyNames" => draft == Draft::Draft4,
+        "if" | "then" | "else" => matches!(draft, Draft::Draft4 | Draft::Draft6),
+        "contentSchema" | "dependentRequired" | "dependentSchemas" => is_earlier(draft),
+        "prefixItems" => draft != Draft::Draft202012,
+        _ => false,
+    }
+}
+
+// Whether a keyword is one that the drafts have from 2019-09 on, of those that begin with `m` or `u`.
+fn is_counted(key: &str) -> bool {
+    matches!(
+        key,
+        "maxContains" | "minContains" | "unevaluatedItems" | "unevaluatedProperties"
+    )
+}
+
+fn is_earlier(draft: Draft) -> bool {
+    matches!(draft, Draft::Draft4 | Draft::Draft6 | Draft::Draft7)
 }
 
 // The places of a document, each after the one above it.
@@ -181,14 +232,33 @@ fn push_below<'d>(
     Ok(true)
 }
 
-fn places_of<'d>(alloc: Global, spots: &[Spot<'d>]) -> Result<Vec<Place<'d>>, AllocError> {
-    let mut places = Vec::with_capacity(alloc, spots.len())?;
-    for spot in spots {
-        places.push(Place {
-            is_root: spot.keyword.is_none(),
-            draft: spot.draft,
-            value: spot.value,
-        })?;
+// The numbers of those places that something may be told of.
+fn suspects_in(alloc: Global, spots: &[Spot<'_>]) -> Result<Vec<usize>, AllocError> {
+    let mut numbers = Vec::new(alloc);
+    for (number, spot) in spots.iter().enumerate() {
+        let is_root = spot.keyword.is_none();
+        if is_root || is_suspect(spot.value, spot.draft, is_root) {
+            numbers.push(number)?;
+        }
+    }
+    Ok(numbers)
+}
+
+// The places with these numbers.
+fn places_of<'d>(
+    alloc: Global,
+    spots: &[Spot<'d>],
+    numbers: &[usize],
+) -> Result<Vec<Place<'d>>, AllocError> {
+    let mut places = Vec::with_capacity(alloc, numbers.len())?;
+    for number in numbers {
+        if let Some(spot) = spots.get(*number) {
+            places.push(Place {
+                is_root: spot.keyword.is_none(),
+                draft: spot.draft,
+                value: spot.value,
+            })?;
+        }
     }
     Ok(places)
 }
@@ -227,6 +297,101 @@ fn push_steps<'d>(
     }
     path.push(JsonPointerSegment::from(keyword))?;
     Ok(())
+}
+
+/// What is told of a keyword of a place that references lead to: the number of its document, and its pointer.
+#[derive(Drop)]
+pub(crate) struct ToldAt {
+    document: usize,
+    pointer: String,
+    keyword: &'static str,
+    told: ToldProblem,
+    draft: Draft,
+}
+
+/// Adds what is told of those places that references of schemas lead to which are in documents that are asked about, and which a draft reads. A `$schema` counts at
+/// what a reference leads to, so that none counts for nothing here.
+pub(crate) fn add_told_at(
+    alloc: Global,
+    asked: usize,
+    numbers: &[usize],
+    reached: &[Reached<'_>],
+    list: &mut Vec<ToldAt>,
+) -> Result<(), AllocError> {
+    let mut suspects = Vec::new(alloc);
+    let mut places = Vec::new(alloc);
+    for (number, place) in reached.iter().enumerate() {
+        let document = numbers.get(place.document).copied().unwrap_or(usize::MAX);
+        let draft = place.reading.draft;
+        let is_read = document < asked && place.reading.is_by_draft();
+        if is_read && is_suspect(place.value, draft, true) {
+            suspects.push(number)?;
+            places.push(Place {
+                is_root: true,
+                draft,
+                value: place.value,
+            })?;
+        }
+    }
+    for slip in slips(alloc, places.as_slice())? {
+        let at = suspects.get(slip.place).copied().unwrap_or(usize::MAX);
+        if let Some(place) = reached.get(at) {
+            list.push(ToldAt {
+                document: numbers.get(place.document).copied().unwrap_or(usize::MAX),
+                pointer: pointer_at(alloc, place)?,
+                keyword: slip.keyword,
+                told: slip.problem,
+                draft: place.reading.draft,
+            })?;
+        }
+    }
+    Ok(())
+}
+
+/// Adds the findings of what is told so, each once: a place may be reached with several bases.
+pub(crate) fn add_all_told_at<'d>(
+    alloc: Global,
+    workspace: &'d Workspace,
+    told: Vec<ToldAt>,
+    list: &mut Vec<Finding<'d>>,
+) -> Result<(), AllocError> {
+    let mut seen = BTreeSet::new(alloc);
+    for one in told {
+        let (number, pointer, keyword) = (one.document, one.pointer.as_str(), one.keyword);
+        let key = format!(in alloc; "{number} {keyword} {pointer}")?;
+        if seen.insert(key)? {
+            add_one_told_at(alloc, workspace, &one, list)?;
+        }
+    }
+    Ok(())
+}
+
+fn add_one_told_at<'d>(
+    alloc: Global,
+    workspace: &'d Workspace,
+    one: &ToldAt,
+    list: &mut Vec<Finding<'d>>,
+) -> Result<(), AllocError> {
+    let Some(root) = workspace.value(one.document) else {
+        return Ok(());
+    };
+    let Some(path) = owned_path_to(alloc, root, one.pointer.as_str())? else {
+        return Ok(());
+    };
+    let (_, text) = texts_at(root, path.as_slice(), one.keyword);
+    push(
+        list,
+        Finding {
+            source: one.document,
+            path,
+            keyword: Some(one.keyword),
+            text,
+            problem: Problem::Told {
+                told: one.told,
+                draft: one.draft,
+            },
+        },
+    )
 }
 
 // Adds what is told of a keyword.

@@ -127,7 +127,7 @@ pub fn code_of(problem: &Problem<'_>, format: Format) -> &'static str {
     match problem {
         Problem::Plain(Plain::NotJson) if format == Format::Yaml => "not-yaml",
         Problem::Plain(problem) => code_of_plain(problem),
-        Problem::WrongKind { .. } => "wrong-kind",
+        Problem::WrongKind { .. } | Problem::NoObject { .. } => "wrong-kind",
         Problem::NotASchema { .. } => "not-a-schema",
         Problem::Endless { .. } => "endless-reference",
         Problem::OtherCase { .. } => "case-of-file",

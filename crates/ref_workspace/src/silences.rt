@@ -13,6 +13,14 @@ use std::collections::BTreeSet;
 // How a comment begins that silences rules.
 const BEGIN: &str = "patchsard: ignore ";
 
+// A comment of YAML that silences rules: the number of its line, from 1, and whether it is alone there.
+#[derive(Clone, Copy, Drop)]
+struct Comment<'d> {
+    line: usize,
+    is_alone: bool,
+    text: &'d str,
+}
+
 /// The comments that silence rules: a `$comment` of the text `patchsard: ignore RULE, RULE: why` silences these rules at its object and below it, and in YAML a
 /// comment of that text at its own line, or where it is alone on a line, at the next one.
 #[derive(Drop)]
@@ -21,6 +29,8 @@ pub struct Silences<'d> {
     documents: &'d [Document],
     // By the numbers of the documents, whether one may have such comments, where its text was looked at.
     may: Vec<Option<bool>>,
+    // By the same numbers, the comments of YAML there, where one may have some and something in it was asked for.
+    comments: Vec<Vec<Comment<'d>>>,
     // Those that silenced something: the number of the document, and a pointer or a line.
     used: BTreeSet<(usize, String)>,
 }
@@ -30,13 +40,16 @@ impl<'d> Silences<'d> {
     pub fn of(alloc: Global, workspace: &'d Workspace) -> Result<Silences<'d>, AllocError> {
         let documents = workspace.documents();
         let mut may = Vec::with_capacity(alloc, documents.len())?;
+        let mut comments = Vec::with_capacity(alloc, documents.len())?;
         for _ in documents {
             may.push(None)?;
+            comments.push(Vec::new(alloc))?;
         }
         Ok(Silences {
             alloc,
             documents,
             may,
+            comments,
             used: BTreeSet::new(alloc),
         })
     }
@@ -49,14 +62,11 @@ impl<'d> Silences<'d> {
         code: &str,
     ) -> Result<bool, AllocError> {
         let source = finding.source;
-        let Some(document) = self.documents.get(source) else {
+        let documents = self.documents;
+        let Some(document) = documents.get(source) else {
             return Ok(false);
         };
-        let may = self.may_be_in(source, document);
-        if let Some(place) = self.may.get_mut(source) {
-            *place = Some(may);
-        }
-        if !may {
+        if !self.look_at(source, document)? {
             return Ok(false);
         }
         if let Some(value) = document.value() {
@@ -67,21 +77,52 @@ impl<'d> Silences<'d> {
                 return Ok(true);
             }
         }
-        if document.text.format == Format::Yaml {
-            if let Some(line) = line_of(document.text.text.as_str(), line, code) {
-                let line = format!(in self.alloc; "{line}")?;
-                self.used.insert((source, line))?;
-                return Ok(true);
-            }
+        if let Some(line) = self.line_of(source, line, code) {
+            let line = format!(in self.alloc; "{line}")?;
+            self.used.insert((source, line))?;
+            return Ok(true);
         }
         Ok(false)
+    }
+
+    // Whether the document with a number may have such comments, whose comments of YAML are noted then.
+    fn look_at(&mut self, source: usize, document: &'d Document) -> Result<bool, AllocError> {
+        let may = self.may_be_in(source, document);
+        let is_new = matches!(self.may.get(source), Some(None));
+        if is_new && may && document.text.format == Format::Yaml {
+            let noted = comments_of(self.alloc, document.text.text.as_str())?;
+            if let Some(comments) = self.comments.get_mut(source) {
+                *comments = noted;
+            }
+        }
+        if let Some(place) = self.may.get_mut(source) {
+            *place = Some(may);
+        }
+        Ok(may)
+    }
+
+    // The number of the line of the document with a number whose comment silences a rule at a line: the one before it where the comment is alone on it, or that line.
+    fn line_of(&self, source: usize, line: usize, code: &str) -> Option<usize> {
+        let comments = self.comments.get(source)?.as_slice();
+        let before = line.saturating_sub(1);
+        if let Some(comment) = comment_at(comments, before) {
+            if comment.is_alone && is_meant_by(comment.text, code) {
+                return Some(before);
+            }
+        }
+        let comment = comment_at(comments, line)?;
+        if is_meant_by(comment.text, code) {
+            Some(line)
+        } else {
+            None
+        }
     }
 
     // Whether the document with a number may have such comments.
     fn may_be_in(&self, source: usize, document: &Document) -> bool {
         match self.may.get(source) {
             Some(Some(may)) => *may,
-            _ => document.text.text.as_str().contains(BEGIN),
+            _ => may_silence(document.text.format, document.text.text.as_str()),
         }
     }
 
@@ -166,6 +207,13 @@ impl<'d> Silences<'d> {
     }
 }
 
+// Whether a text that is written so may have a comment that silences rules. In JSON that is the value of a `$comment`, which is looked for first: most texts
+// have neither that nor an escape, by which its letters may be written.
+fn may_silence(format: Format, text: &str) -> bool {
+    let has_comment = format == Format::Yaml || text.contains("$comment") || text.contains("\\u");
+    has_comment && text.contains(BEGIN)
+}
+
 fn comment_of(value: &Value) -> Option<&str> {
     value.get("$comment").and_then(Value::as_str)
 }
@@ -209,32 +257,41 @@ fn depth_of(root: &Value, path: &[JsonPointerSegment<'_>], code: &str) -> Option
     found
 }
 
-// A line of YAML before its comment, and the comment without its mark.
-fn split_comment(line: &str) -> Option<(&str, &str)> {
-    let (before, comment) = line.split_once('#')?;
-    if before.is_empty() || before.ends_with([' ', '\t']) {
-        Some((before, comment.trim_start().trim_end()))
-    } else {
-        None
+// The comments of a text of YAML that silence rules, in its order.
+fn comments_of(alloc: Global, text: &str) -> Result<Vec<Comment<'_>>, AllocError> {
+    let mut list = Vec::new(alloc);
+    for (index, line) in text.split('\n').enumerate() {
+        if let Some((before, text)) = split_comment(line) {
+            list.push(Comment {
+                line: index.saturating_add(1),
+                is_alone: before.trim_start().is_empty(),
+                text,
+            })?;
+        }
     }
+    Ok(list)
 }
 
-// The number of the line whose comment silences a rule at a line: that line, or the one before it where the comment is alone on it.
-fn line_of(text: &str, line: usize, code: &str) -> Option<usize> {
-    let before = line.saturating_sub(1);
-    for (index, own) in text.split('\n').enumerate() {
-        let number = index.saturating_add(1);
-        if number > line {
-            break;
+// The comment on a line.
+fn comment_at<'d>(comments: &[Comment<'d>], line: usize) -> Option<Comment<'d>> {
+    let number = comments
+        .binary_search_by(|comment| comment.line.cmp(&line))
+        .ok()?;
+    comments.get(number).copied()
+}
+
+// A line of YAML before its comment that silences rules, and the comment without its mark. What is before it may have the mark too, as in a reference.
+fn split_comment(line: &str) -> Option<(&str, &str)> {
+    let mut start: usize = 0;
+    for _ in 0..line.len() {
+        let mark = start.saturating_add(line.get(start..)?.find('#')?);
+        let before = line.get(..mark)?;
+        let comment = line.get(mark.saturating_add(1)..)?.trim_start().trim_end();
+        let is_begun = before.is_empty() || before.ends_with([' ', '\t']);
+        if is_begun && is_silence(comment) {
+            return Some((before, comment));
         }
-        if number == line || number == before {
-            if let Some((front, comment)) = split_comment(own) {
-                let is_meant = number == line || front.trim_start().is_empty();
-                if is_meant && is_meant_by(comment, code) {
-                    return Some(number);
-                }
-            }
-        }
+        start = mark.saturating_add(1);
     }
     None
 }

@@ -15,7 +15,7 @@ use crate::finding::{Finding, Report, plain, push, push_all, push_plain};
 use crate::heads::may_be_endless;
 use crate::led::add_led;
 use crate::members::add_repeated;
-use crate::ruled::{add_told, without_misspelled};
+use crate::ruled::{add_all_told_at, add_told, without_misspelled};
 use crate::unused::{Unused, add_unused};
 use crate::workspace::{Document, Workspace};
 use ref_draft::Draft;
@@ -198,6 +198,8 @@ impl Workspace {
         }
         add_cases(alloc, self, &mut findings)?;
         add_told(alloc, self, &described, &mut findings)?;
+        let told_at = described.take_told(alloc);
+        add_all_told_at(alloc, self, told_at, &mut findings)?;
         add_repeated(alloc, self, &described, &mut findings)?;
         add_unused(alloc, self, &described, &unused, &mut findings)?;
         self.add_faults(alloc, &described, &mut findings)?;

@@ -2,6 +2,7 @@
 //!
 //! A document is looked at by itself, and whatever it is read as: each text counts that stands where a reference may be, and each identifier and anchor that there
 //! may be. So a definition may count as used that isn't, and none that is used counts as unused.
+use crate::heads::is_identifier;
 use crate::referring::{NAMED, is_passed};
 use percent_encoding::{DecodeError, percent_decode};
 use ref_descriptions::version_of;
@@ -28,7 +29,7 @@ pub(crate) struct Definition {
 pub(crate) struct Use {
     /// The number, from 1, of the innermost definition that it is in; 0 where it is in none.
     pub from: usize,
-    /// The name: a URI; a URI, `#` and the name of an anchor; or `#` and the name of a dynamic anchor.
+    /// The name: a URI; a URI, `#` and the name of an anchor; `#` and the name of a dynamic anchor; or a blank and the pointer of a component.
     pub name: String,
     /// The pointer from there on.
     pub rest: String,
@@ -109,6 +110,8 @@ struct Node<'v> {
 struct Local {
     from: usize,
     pointer: String,
+    // Whether it is an item of an `allOf`.
+    is_of_all: bool,
 }
 
 // A walk over the values of a document.
@@ -118,6 +121,8 @@ struct Walk<'v> {
     uses: Uses,
     nodes: Vec<Node<'v>>,
     locals: Vec<Local>,
+    // The numbers of the definitions that have a discriminator.
+    discriminated: Vec<usize>,
     // The bases that there may be in parts of the document; and the number of those of the document as a whole.
     bases: Vec<Vec<Rc<Uri>>>,
     own: usize,
@@ -233,26 +238,34 @@ impl<'v> Walk<'v> {
             uses,
             nodes: Vec::new(alloc),
             locals: Vec::new(alloc),
+            discriminated: Vec::new(alloc),
             bases,
             own: 0,
             is_description: false,
         })
     }
 
-    // What was noted, with the references to places of the document itself.
+    // What was noted, with the references to places of the document itself. A schema with a discriminator leads to those that have it in their `allOf`, since its
+    // values name them (OpenAPI 3.1, Discriminator Object).
     fn into_uses(self) -> Result<Uses, AllocError> {
         let Walk {
             alloc,
             uses,
             locals,
+            discriminated,
             ..
         } = self;
         let mut uses = uses;
+        let mut discriminated = discriminated;
+        discriminated.sort_unstable();
         let mut steps = Vec::new(alloc);
         for local in &locals {
             let to = uses.innermost(local.pointer.as_str());
             if to > 0 && to != local.from {
                 steps.push((local.from, to))?;
+                if local.is_of_all && local.from > 0 && discriminated.binary_search(&to).is_ok() {
+                    steps.push((to, local.from))?;
+                }
             }
         }
         uses.own = each_once(alloc, steps)?;
@@ -336,6 +349,9 @@ impl<'v> Walk<'v> {
         spot: Spot<'v>,
         members: &'v Map<String, Value>,
     ) -> Result<Spot<'v>, AllocError> {
+        if !has_identifier(members) {
+            return Ok(spot);
+        }
         let mut spot = spot;
         for key in ["$id", "id", "$self"] {
             if let Some(id) = members.get(key).and_then(Value::as_str) {
@@ -421,6 +437,9 @@ impl<'v> Walk<'v> {
         key: &'v str,
         waiting: &mut Vec<Spot<'v>>,
     ) -> Result<(), AllocError> {
+        if key == "discriminator" && self.is_description {
+            self.discriminated.push(member.definition)?;
+        }
         match member.value {
             Value::String(text) => self.refer(member, key, text.as_str()),
             Value::Array(items) if key == "security" => self.note_security(
@@ -497,9 +516,18 @@ impl<'v> Walk<'v> {
         waiting: &mut Vec<Spot<'v>>,
     ) -> Result<(), AllocError> {
         if !member.value.is_object() && !member.value.is_boolean() {
-            return Ok(());
+            let within = Spot {
+                role: Role::Keywords,
+                ..member
+            };
+            return self.push(within, Step::Key(key), waiting);
         }
         let pointer = self.pointer_below(member.node, key)?;
+        if self.is_description && is_called(pointer.as_str()) {
+            let name = called(self.alloc, pointer.as_str())?;
+            let pointer = pointer.clone()?;
+            self.uses.bearers.push(Bearer { name, pointer })?;
+        }
         self.uses.definitions.push(Definition {
             pointer: pointer.clone()?,
             around: member.definition,
@@ -612,7 +640,7 @@ impl<'v> Walk<'v> {
         Ok(())
     }
 
-    // Notes a reference to a component of the document by its name.
+    // Notes a reference to a component by its name: of the document where it is a description, and else of those that it may be a part of.
     fn note_component(
         &mut self,
         member: Spot<'_>,
@@ -621,6 +649,10 @@ impl<'v> Walk<'v> {
     ) -> Result<(), AllocError> {
         let mut pointer = String::from_str(self.alloc, front)?;
         write_escaped_str(&mut pointer, name)?;
+        if !self.is_description {
+            let name = called(self.alloc, pointer.as_str())?;
+            return self.push_use(member, name, "");
+        }
         self.note_local(member, pointer)
     }
 
@@ -640,11 +672,24 @@ impl<'v> Walk<'v> {
     }
 
     fn note_local(&mut self, member: Spot<'_>, pointer: String) -> Result<(), AllocError> {
+        let is_of_all = self.is_of_all(member.node);
         self.locals.push(Local {
             from: member.definition,
             pointer,
+            is_of_all,
         })?;
         Ok(())
+    }
+
+    // Whether the value of a node is an item of an `allOf`.
+    fn is_of_all(&self, node: usize) -> bool {
+        let Some(own) = self.nodes.get(node) else {
+            return false;
+        };
+        match (own.step, self.nodes.get(own.above)) {
+            (Step::Index(_), Some(list)) => matches!(list.step, Step::Key("allOf")),
+            _ => false,
+        }
     }
 
     // Notes what a text refers to, from each base that there may be.
@@ -679,6 +724,17 @@ impl<'v> Walk<'v> {
     }
 }
 
+// Whether a component is referred to by its name alone, from other documents too.
+fn is_called(pointer: &str) -> bool {
+    pointer.starts_with("/components/schemas/")
+        || pointer.starts_with("/components/securitySchemes/")
+}
+
+// The name of a component that is referred to by its name alone, from other documents too: no URI and no anchor begins with a blank.
+fn called(alloc: Global, pointer: &str) -> Result<String, AllocError> {
+    [" ", pointer].join(alloc, "")
+}
+
 // Whether nothing is told of the definitions of a document: they are there for others, in a schema that has nothing but an identifier, a dialect, comments and definitions, or a
 // description without an operation; or it is a description of a kind that isn't known.
 fn is_library(root: &Value, is_description: bool) -> bool {
@@ -699,6 +755,16 @@ fn is_library(root: &Value, is_description: bool) -> bool {
         }
     }
     true
+}
+
+// Whether an object has a member that may be an identifier or an anchor.
+fn has_identifier(members: &Map<String, Value>) -> bool {
+    for (key, _) in members {
+        if is_identifier(key.as_str()) {
+            return true;
+        }
+    }
+    false
 }
 
 // Whether nothing is in the object under a key.
