@@ -136,7 +136,7 @@ impl<'a> Index<'a> {
             (λ e. IsFoundAt self.now e.now (last_under uri.now (resources self.now))) }
         ensures spot { IfSome result (λ e. spot_under uri.now self.now ≡ Some (spot_of e.now)) }
     {
-        let number = self.by_uri.get(uri, "").0.copied();
+        let number = self.by_uri.find(uri, "").copied();
         entry_at(self.entries.as_slice(), number)
     }
 
@@ -169,7 +169,7 @@ impl<'a> Index<'a> {
         ensures spot { IfSome result
             (λ e. spot_named uri.now name.now self.now ≡ Some (spot_of e.entry.now)) }
     {
-        let named = self.by_name.get(uri, name).0?;
+        let named = self.by_name.find(uri, name)?;
         let entry = self.entries.get(named.entry)?;
         Some(FoundName { named, entry })
     }
@@ -184,7 +184,7 @@ impl<'a> Index<'a> {
             (λ found. IsFoundWhere self.now found.entry
             (last_under found.uri.now.value (resources self.now))) }
     {
-        let resolved = self.by_pair.get(base, text).0?;
+        let resolved = self.by_pair.find(base, text)?;
         Some(FoundUri {
             uri: &resolved.uri,
             entry: entry_at(self.entries.as_slice(), resolved.entry),
@@ -236,7 +236,7 @@ fn set_entries(by_uri: &SortedTable<usize>, pairs: &mut TableEntries<ResolvedUri
     ensures { pairs.new ≡ map (with_value (numbered_uri by_uri.now)) pairs.old }
 {
     pairs.change_values(|resolved| {
-        resolved.entry = by_uri.get(resolved.uri.as_str(), "").0.copied();
+        resolved.entry = by_uri.find(resolved.uri.as_str(), "").copied();
     });
 }
 

@@ -24,6 +24,9 @@ pub struct SortedTable<V> {
     texts: Vec<u8>,
     // How many bytes the first texts begin with alike.
     shared: usize,
+    // Where the entry of two texts is likely to be: its place, under a number of its texts. Any places would do, since an entry is
+    // compared with what is sought, and sought by halving where it is another one.
+    hints: Vec<u32>,
     entered: Snapshot<Vec<Slot<V>>>,
 }
 
@@ -151,6 +154,7 @@ impl<V: Drop> TableEntries<V> {
         kept.dedup_by(|a, b| is_same(buffer, a, b));
         Ok(SortedTable {
             words: words_of(alloc, kept.as_slice())?,
+            hints: hints_of(alloc, texts.as_slice(), kept.as_slice())?,
             kept,
             texts,
             shared,
@@ -215,6 +219,111 @@ impl<V> SortedTable<V> {
         }
         (None, probes)
     }
+
+    /// The value that was entered last under two texts: what `get` finds, without a count.
+    ///
+    /// Mostly one comparison, with the entry at a place that a number of the texts is kept with; where that is another entry, it is
+    /// found by halving, as `get` does. Takes no memory.
+    #[inline(always)]
+    pub fn find(&self, first: &str, second: &str) -> Option<&V>
+        ensures value { option_copied result ≡ last_value first.now second.now self.now }
+    {
+        let word = word_at(first.as_bytes(), self.shared);
+        let place = self.hint(mixed(word, first.as_bytes(), second.as_bytes()), word);
+        if place < self.kept.len() {
+            let slot = &self.kept[place];
+            match order(&self.texts, slot.word, slot, word, first, second) {
+                Ordering::Equal => return Some(&slot.value),
+                _ => {}
+            }
+        }
+        self.search(first, second)
+    }
+
+    // The same by halving alone.
+    #[inline(never)]
+    fn search(&self, first: &str, second: &str) -> Option<&V>
+        ensures value { option_copied result ≡ last_value first.now second.now self.now }
+    {
+        self.get(first, second).0
+    }
+
+    // The place where an entry is likely to be, by the number of its two texts: the first of two, where the first text of the entry
+    // there has this word, and else the second. It may be beyond the end.
+    #[inline(always)]
+    fn hint(&self, mixed: usize, word: u64) -> usize {
+        let bucket = mixed & self.hints.len().wrapping_sub(1);
+        let place = place_in(self.hints.as_slice(), bucket);
+        match self.words.get(place) {
+            Some(number) if *number == word => place,
+            _ => place_in(self.hints.as_slice(), bucket ^ 1),
+        }
+    }
+}
+
+// The place in a bucket, which is beyond any end where there is none.
+#[inline(always)]
+fn place_in(hints: &[u32], bucket: usize) -> usize {
+    match hints.get(bucket) {
+        Some(place) => *place as usize,
+        None => usize::MAX,
+    }
+}
+
+// The places of entries, in buckets by the numbers of their texts: two for each entry, or up to four. A bucket that is taken
+// already is passed over for the one beside it. Of more than 2^31 entries some have none.
+fn hints_of<V>(alloc: Global, texts: &[u8], kept: &[Slot<V>]) -> Result<Vec<u32>, AllocError> {
+    let size = bucket_count(kept.len());
+    let mut hints = Vec::new(alloc);
+    hints.resize(size, u32::MAX)?;
+    let mut place = 0;
+    for slot in kept {
+        let first = text_between(texts, slot.first, slot.second);
+        let second = text_between(texts, slot.second, slot.end);
+        let bucket = mixed(slot.word, first, second) & size.wrapping_sub(1);
+        set_hint(hints.as_mut_slice(), bucket, place);
+        place = place.wrapping_add(1);
+    }
+    Ok(hints)
+}
+
+// How many buckets there are for so many entries, a power of two.
+fn bucket_count(entries: usize) -> usize {
+    let few = entries.min(1 << 31);
+    (few + few).next_power_of_two()
+}
+
+// Puts a place into a bucket, or, where that is taken, into the one beside it.
+fn set_hint(hints: &mut [u32], bucket: usize, place: u32) {
+    let is_free = place_in(hints, bucket) == u32::MAX as usize;
+    let bucket = if is_free { bucket } else { bucket ^ 1 };
+    if let Some(hint) = hints.get_mut(bucket) {
+        *hint = place;
+    }
+}
+
+// A number of two texts, with the word of the first: by that, the last eight bytes of each, and the length of the second.
+#[inline(always)]
+fn mixed(word: u64, first: &[u8], second: &[u8]) -> usize {
+    let ends = last_word(first).rotate_left(17)
+        ^ last_word(second).rotate_left(39)
+        ^ second.len() as u64;
+    let both = word ^ ends;
+    let folded = both ^ (both >> 32);
+    (folded.wrapping_mul(0x9e37_79b9_7f4a_7c15) >> 32) as usize
+}
+
+// The last eight bytes of a text as a number, or those that it has.
+#[inline(always)]
+fn last_word(text: &[u8]) -> u64 {
+    if let Some((_, eight)) = text.split_last_chunk::<8>() {
+        return u64::from_be_bytes(*eight);
+    }
+    let mut number = 0;
+    for byte in text {
+        number = number << 8 | *byte as u64;
+    }
+    number
 }
 
 // Moves the offsets of slots, whose texts are after so many more bytes.

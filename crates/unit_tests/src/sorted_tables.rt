@@ -52,6 +52,12 @@ fn value_at<'a, V: Drop>(table: &'a SortedTable<V>, first: &str, second: &str) -
     table.get(first, second).0
 }
 
+fn found_at<'a, V: Drop>(table: &'a SortedTable<V>, first: &str, second: &str) -> Option<&'a V>
+    ensures { option_copied result ≡ last_value first.now second.now table.now }
+{
+    table.find(first, second)
+}
+
 /// Enters a value under two texts.
 fn enter<V: Drop>(
     entries: &mut Vec<(String, String, V)>,
@@ -86,6 +92,7 @@ fn assert_lent<V: PartialEq + fmt::Debug + Drop>(
 ) -> Result<(), AllocError> {
     let table = table_of_one(alloc, "a", value)?;
     same(rt, value_at(&table, "a", ""), Some(wanted));
+    same(rt, found_at(&table, "a", ""), Some(wanted));
     Ok(())
 }
 
@@ -130,9 +137,19 @@ pub fn tables(rt: &impl Abort, alloc: Global, row: &Row<'_>) -> Result<(), Alloc
     let (value, probes) = table.get(row.text(3), row.text(4));
     row.same(rt, probes <= row.count(2), true);
     row.same(rt, value.copied(), row.number(5));
+    row.same(
+        rt,
+        table.find(row.text(3), row.text(4)).copied(),
+        row.number(5),
+    );
     let joined = joined_of(alloc, row)?;
     let (value, _) = joined.get(row.text(3), row.text(4));
     row.same(rt, value.copied(), row.number(5));
+    row.same(
+        rt,
+        joined.find(row.text(3), row.text(4)).copied(),
+        row.number(5),
+    );
     Ok(())
 }
 
@@ -159,6 +176,12 @@ fn assert_number(
     same(rt, (value.copied(), probes <= 10), (Some(number), true));
     let (none, probes) = table.get(uri.as_str(), "2");
     same(rt, (none.copied(), probes <= 10), (None, true));
+    same(
+        rt,
+        table.find(uri.as_str(), name_of(number)).copied(),
+        Some(number),
+    );
+    same(rt, table.find(uri.as_str(), "2").copied(), None);
     Ok(())
 }
 
@@ -192,5 +215,6 @@ fn of_equal_pairs_the_last_stays(rt: HostRuntime) -> Result<(), AllocError> {
     same(&rt, count_of(&table), 1);
     let (value, probes) = table.get("a", "b");
     same(&rt, (value.copied(), probes), (Some(99_999), 1));
+    same(&rt, table.find("a", "b").copied(), Some(99_999));
     Ok(())
 }
