@@ -1,0 +1,13 @@
+pub mod Lists
+pub mod Tables
+pub mod Firsts
+pub mod Images
+pub mod Giving
+pub mod Standing
+pub mod Adding
+pub mod Blocks
+pub mod Answering
+pub mod Scoped
+pub mod Law
+pub mod Anchored
+pub mod Telling

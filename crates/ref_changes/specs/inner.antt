@@ -1,0 +1,3 @@
+-- What no public clause cites.
+pub mod Tables
+pub mod Firsts
