@@ -11,7 +11,7 @@ use Rattle.ref_draft.specs.Schema.{trimmed_text}
 use Rattle.ref_definitions.specs.Results.{◌>>=◌}
 use Rattle.ref_definitions.specs.Fault.{as_invalid_uri}
 use Rattle.ref_calls.specs.declared.call.Call.{Call}
-use Rattle.ref_calls.specs.declared.call.Call.TheVariants.{Hello, Uri, DraftOf, Yaml, Faults, Open, Lookup, Recursive, Enter, Follow, Scope, Places, Survey, References, Dangling, Vocabularies, Bundle, Close}
+use Rattle.ref_calls.specs.declared.call.Call.TheVariants.{Hello, Uri, DraftOf, Yaml, Faults, Open, Lookup, Recursive, Enter, Follow, Scope, Places, Survey, References, Dangling, Compare, Vocabularies, Bundle, Close}
 use Rattle.ref_calls.specs.declared.fault.Wrong.TheVariants.{UnknownField, MissingField, InvalidField}
 use Rattle.ref_calls.specs.Errors.{plain_error, with_field, field_error, as_error, in_field, at_index}
 
@@ -35,9 +35,10 @@ call_named s =
     else (if bytes_eq s (codes "survey") then Some Survey
     else (if bytes_eq s (codes "references") then Some References
     else (if bytes_eq s (codes "dangling") then Some Dangling
+    else (if bytes_eq s (codes "compare") then Some Compare
     else (if bytes_eq s (codes "vocabularies") then Some Vocabularies
     else (if bytes_eq s (codes "bundle") then Some Bundle
-    else (if bytes_eq s (codes "close") then Some Close else None)))))))))))))))))
+    else (if bytes_eq s (codes "close") then Some Close else None))))))))))))))))))
 
 -- the names of all calls, in this order
 abbrev pub call_names : List (List ℕ)
@@ -45,7 +46,7 @@ call_names =
     codes "hello" ∷ codes "uri" ∷ codes "draft" ∷ codes "yaml" ∷ codes "faults" ∷ codes "open"
     ∷ codes "lookup" ∷ codes "recursive" ∷ codes "enter" ∷ codes "follow" ∷ codes "scope"
     ∷ codes "places" ∷ codes "survey" ∷ codes "references" ∷ codes "dangling"
-    ∷ codes "vocabularies" ∷ codes "bundle" ∷ codes "close" ∷ []
+    ∷ codes "compare" ∷ codes "vocabularies" ∷ codes "bundle" ∷ codes "close" ∷ []
 
 -- the members that a call knows besides `call` and `id`
 abbrev pub fields_of : Call → List (List ℕ)
@@ -69,6 +70,7 @@ fields_of Places = codes "registry" ∷ []
 fields_of Survey = codes "registry" ∷ []
 fields_of References = codes "registry" ∷ codes "document" ∷ codes "candidates" ∷ []
 fields_of Dangling = codes "registry" ∷ []
+fields_of Compare = codes "registry" ∷ codes "after" ∷ codes "moves" ∷ []
 fields_of Vocabularies = codes "registry" ∷ codes "schema" ∷ codes "draft" ∷ []
 fields_of Bundle = codes "registry" ∷ codes "document" ∷ []
 fields_of Close = codes "registry" ∷ []

@@ -27,6 +27,7 @@ pub enum Call {
     Survey,
     References,
     Dangling,
+    Compare,
     Vocabularies,
     Bundle,
     Close,
@@ -51,6 +52,7 @@ fn call_named(name: &str) -> Option<Call>
         "survey" => Some(Call::Survey),
         "references" => Some(Call::References),
         "dangling" => Some(Call::Dangling),
+        "compare" => Some(Call::Compare),
         "vocabularies" => Some(Call::Vocabularies),
         "bundle" => Some(Call::Bundle),
         "close" => Some(Call::Close),
@@ -59,7 +61,7 @@ fn call_named(name: &str) -> Option<Call>
 }
 
 // The names of all calls.
-const NAMES: [&str; 18] = [
+const NAMES: [&str; 19] = [
     "hello",
     "uri",
     "draft",
@@ -75,6 +77,7 @@ const NAMES: [&str; 18] = [
     "survey",
     "references",
     "dangling",
+    "compare",
     "vocabularies",
     "bundle",
     "close",
@@ -105,6 +108,7 @@ fn fields_of(call: Call) -> &'static [&'static str]
         Call::Scope => &["registry", "scope"],
         Call::Vocabularies => &["registry", "schema", "draft"],
         Call::References => &["registry", "document", "candidates"],
+        Call::Compare => &["registry", "after", "moves"],
         Call::Bundle => &["registry", "document"],
         Call::Places | Call::Survey | Call::Dangling | Call::Close => &["registry"],
     }

@@ -7,7 +7,7 @@ ghost use Rattle.serde_json.specs.Find.{get};
 ghost use Rattle.ref_draft.specs.declared.draft.Draft.TheVariants.{Draft4, Draft7, Draft202012};
 ghost use Rattle.ref_definitions.specs.Fault.{PointerToNowhere, InvalidPercentEncoding, InvalidArrayIndex, NoSuchAnchor, InvalidAnchor, UnknownSpecification, RetrievalLimit};
 ghost use Rattle.ref_definitions.specs.Rows.{yes, text, whole_number, empty, one, two, list, pair};
-ghost use Rattle.ref_calls.specs.declared.call.Call.TheVariants.{Hello, Uri, DraftOf, Yaml, Faults, Open, Lookup, Recursive, Enter, Follow, Scope, Places, Survey, References, Dangling, Vocabularies, Bundle, Close};
+ghost use Rattle.ref_calls.specs.declared.call.Call.TheVariants.{Hello, Uri, DraftOf, Yaml, Faults, Open, Lookup, Recursive, Enter, Follow, Scope, Places, Survey, References, Dangling, Compare, Vocabularies, Bundle, Close};
 ghost use Rattle.ref_calls.specs.declared.fault.Wrong.TheVariants.{UnknownField, MissingField, InvalidField, UnknownRegistry, UnknownScope};
 ghost use Rattle.ref_calls.specs.Calls.{call_of, call_named, call_names, is_known, required_member, text_in, number_in, is_set, draft_of, schema_of, base_of, document_of, documents_of, documents_at, needed_documents, under_uris};
 ghost use Rattle.ref_calls.specs.Scopes.{own_scope, scope_in, scope_of, scope_answered};
@@ -44,7 +44,8 @@ pub fn calls()
     ensures each_is_named { map call_named call_names
         ≡ Some Hello ∷ Some Uri ∷ Some DraftOf ∷ Some Yaml ∷ Some Faults ∷ Some Open
         ∷ Some Lookup ∷ Some Recursive ∷ Some Enter ∷ Some Follow ∷ Some Scope ∷ Some Places
-        ∷ Some Survey ∷ Some References ∷ Some Dangling ∷ Some Vocabularies ∷ Some Bundle ∷ Some Close ∷ [] }
+        ∷ Some Survey ∷ Some References ∷ Some Dangling ∷ Some Compare ∷ Some Vocabularies
+        ∷ Some Bundle ∷ Some Close ∷ [] }
     ensures without_members { call_of (call "hello") ≡ Ok Hello }
     ensures of_a_text { call_of (call_with "yaml" "text" (text "a")) ≡ Ok Yaml }
     ensures no_registry_is_asked { told "field" (call_of (call_with "uri" "registry" (whole_number 0)))

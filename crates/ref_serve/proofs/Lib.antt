@@ -14,3 +14,4 @@ pub mod Scopes
 pub mod OnLiterals
 pub mod Choosing
 pub mod ThreeLists
+pub mod MovesRead

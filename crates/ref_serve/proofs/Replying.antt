@@ -5,7 +5,7 @@ use Rattle.serde_json.specs.Find.{get}
 use Rattle.serde_json.specs.View.{view}
 use Rattle.serde_json.specs.declared.value.Value.{Value}
 use Rattle.ref_calls.specs.declared.call.Call.{Call}
-use Rattle.ref_calls.specs.declared.call.Call.TheVariants.{Hello, Uri, DraftOf, Yaml, Faults, Open, Lookup, Recursive, Enter, Follow, Scope, Places, Survey, References, Dangling, Vocabularies, Bundle, Close}
+use Rattle.ref_calls.specs.declared.call.Call.TheVariants.{Hello, Uri, DraftOf, Yaml, Faults, Open, Lookup, Recursive, Enter, Follow, Scope, Places, Survey, References, Dangling, Compare, Vocabularies, Bundle, Close}
 use Rattle.ref_json.specs.declared.stop.Stop.{Stop}
 use Rattle.ref_json.specs.declared.stop.Stop.TheVariants.{Memory, Because}
 use Rattle.ref_serve.specs.declared.answer.Reply.{Reply}
@@ -33,6 +33,7 @@ as_reply Places state next d outcome other another kept third given = given
 as_reply Survey state next d outcome other another kept third given = given
 as_reply References state next d outcome other another kept third given = given
 as_reply Dangling state next d outcome other another kept third given = given
+as_reply Compare state next d outcome other another kept third given = given
 as_reply Vocabularies state next d outcome other another kept third given = given
 as_reply Bundle state next d outcome other another kept third given = given
 as_reply Close state next d outcome other another kept third given = absurd (another refl)

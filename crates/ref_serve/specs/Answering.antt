@@ -3,7 +3,7 @@ use Rattle.std.specs.Prelude.{◌≡◌, ◌≤◌, length, ℕ, List, [], codes
 use Rattle.serde_json.specs.Data.{Data}
 use Rattle.serde_json.specs.Find.{get}
 use Rattle.ref_calls.specs.declared.call.Call.{Call}
-use Rattle.ref_calls.specs.declared.call.Call.TheVariants.{Hello, Uri, DraftOf, Yaml, Faults, Open, Lookup, Recursive, Enter, Follow, Scope, Places, Survey, References, Dangling, Vocabularies, Bundle, Close}
+use Rattle.ref_calls.specs.declared.call.Call.TheVariants.{Hello, Uri, DraftOf, Yaml, Faults, Open, Lookup, Recursive, Enter, Follow, Scope, Places, Survey, References, Dangling, Compare, Vocabularies, Bundle, Close}
 use Rattle.ref_calls.specs.Objects.{object_of, answer_of, IsLineOf}
 use Rattle.ref_calls.specs.Errors.{not_json}
 use Rattle.ref_calls.specs.Why.{why}
@@ -20,6 +20,7 @@ use Rattle.ref_serve.specs.Where.{placed}
 use Rattle.ref_calls.specs.Yaml.{IsCallRead, IsYaml}
 use Rattle.ref_serve.specs.References.{IsReferences}
 use Rattle.ref_serve.specs.Surveys.{IsSurveyed}
+use Rattle.ref_serve.specs.Comparisons.{compare_result}
 use Rattle.ref_serve.specs.Listings.{places_result, dangling_result, vocabularies_result, IsBundle}
 
 -- `faults`, whose texts of YAML are read first
@@ -41,6 +42,7 @@ IsResult Places state d outcome = outcome ≡ places_result state d
 IsResult Survey state d outcome = IsSurveyed state d outcome
 IsResult References state d outcome = IsReferences state d outcome
 IsResult Dangling state d outcome = outcome ≡ dangling_result state d
+IsResult Compare state d outcome = outcome ≡ compare_result state d
 IsResult Vocabularies state d outcome = outcome ≡ vocabularies_result state d
 IsResult Bundle state d outcome = IsBundle state d outcome
 IsResult Open state d outcome = Unit {0}

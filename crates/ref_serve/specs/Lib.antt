@@ -7,6 +7,7 @@ pub mod About
 pub mod Scopes
 pub mod Listings
 pub mod Surveys
+pub mod Comparisons
 pub mod Candidates
 pub mod References
 pub mod Faults

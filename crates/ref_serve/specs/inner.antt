@@ -7,3 +7,4 @@ pub mod Giving
 pub mod Referred
 pub mod Faulty
 pub mod Placing
+pub mod Sides

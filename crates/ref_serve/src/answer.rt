@@ -13,6 +13,7 @@ ghost use Rattle.ref_serve.specs.inner.Replies.{registries_after, Replies, IsRea
 
 use crate::about::{draft, hello, uri};
 use crate::bundling::bundle_document;
+use crate::comparing::compare_call;
 use crate::entering::enter;
 use crate::faults::faults_call;
 use crate::following::follow;
@@ -231,6 +232,7 @@ fn result_of(alloc: Global, state: &State, call: Call, tree: &Value) -> Result<V
         Call::Survey => survey_call(alloc, state, tree),
         Call::References => references(alloc, state, tree),
         Call::Dangling => dangling_references(alloc, state, tree),
+        Call::Compare => compare_call(alloc, state, tree),
         Call::Vocabularies => vocabularies(alloc, state, tree),
         Call::Bundle => bundle_document(alloc, state, tree),
         Call::Faults | Call::Open | Call::Scope | Call::Close => {

@@ -8,7 +8,7 @@ ghost use Rattle.ref_serve.specs.Results as results;
 ghost use Rattle.ref_calls.specs.Given.{scope_given};
 ghost use Rattle.ref_serve.specs.inner.Seen.{asked_view, start_view};
 
-use crate::registry::registry_of;
+use crate::registry::{layer_number, registry_of};
 use crate::state::{Open, State};
 use ref_calls::field::{base_of, is_set};
 use ref_calls::scope::{GivenScope, Kept, scope_of};
@@ -44,13 +44,7 @@ impl<'s> Asked<'s> {
     pub fn layer(&self, layer: usize) -> usize
         ensures value { result ≡ spec.layer_number self.now.number self.now.registry.now.1 layer }
     {
-        if layer == 0 {
-            return self.number;
-        }
-        match self.registry.parents().get(layer - 1) {
-            Some(parent) => *parent,
-            None => self.number,
-        }
+        layer_number(self.number, self.registry, layer)
     }
 }
 

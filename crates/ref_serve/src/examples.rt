@@ -23,6 +23,7 @@ ghost use Rattle.ref_serve.specs.Opening.{uri_given, number_given};
 ghost use Rattle.ref_serve.specs.Listings.{identifier_member, anchor_member};
 ghost use Rattle.ref_serve.specs.References.{references_of};
 ghost use Rattle.ref_serve.specs.Faults.{problem_fault};
+ghost use Rattle.ref_serve.specs.Comparisons.{move_of, moves_at, led_object, difference_data};
 ghost use Rattle.ref_serve.specs.Where.{known_by, tells_same, is_told_by, first_told, at_place, placed};
 ghost use Rattle.ref_serve.specs.Rows.{registry, opened, triple, from_base};
 
@@ -265,4 +266,35 @@ pub fn places_of_errors()
         ≡ three "document" (whole_number 1) "pointer" (text "/a") "uri" (text "u:b") }
     ensures of_a_member { placed empty (two "field" (text "limit") "uri" (text "u:a"))
         ≡ two "field" (text "limit") "uri" (text "u:a") }
+{}
+
+/// What moves, and where a text leads, as `compare` takes and tells it.
+pub fn comparisons()
+    ensures a_move { move_of
+        (array (item (array (item (whole_number 0) (item (text "/a") no_items)))
+        (item (array (item (whole_number 1) (item (text "") no_items))) no_items)))
+        ≡ Some (record {
+          from = record { document = 0; pointer = codes "/a" };
+          to = record { document = 1; pointer = [] };
+        }) }
+    ensures one_address { move_of
+        (array (item (array (item (whole_number 0) (item (text "/a") no_items))) no_items))
+        ≡ None }
+    ensures a_third_item { move_of
+        (array (item (array (item (whole_number 0) (item (text "/a") (item null no_items))))
+        (item (array (item (whole_number 1) (item (text "") no_items))) no_items)))
+        ≡ None }
+    ensures no_number { move_of
+        (array (item (array (item (text "/a") (item (whole_number 0) no_items)))
+        (item (array (item (whole_number 1) (item (text "") no_items))) no_items)))
+        ≡ None }
+    ensures nothing_moves { moves_at None ≡ Ok [] }
+    ensures no_list { told "field" (moves_at (Some empty)) ≡ Some (text "moves") }
+    ensures no_move { told "index" (moves_at (Some (array (item null no_items))))
+        ≡ Some (whole_number 0) }
+    ensures leads_nowhere { led_object (7, registry "http://a/r" empty) (codes "#a") None
+        ≡ one "reference" (text "#a") }
+    ensures nothing_differs { difference_data (0, registry "http://a/r" empty)
+        (0, registry "http://a/r" empty) None
+        ≡ null }
 {}

@@ -9,6 +9,7 @@ mod answer;
 mod asked;
 mod bundling;
 mod candidates;
+mod comparing;
 mod entering;
 pub mod examples;
 mod faults;

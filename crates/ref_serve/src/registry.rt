@@ -1,5 +1,5 @@
 //! The registry that a call asks.
-ghost use Rattle.std.specs.Prelude.{codes};
+ghost use Rattle.std.specs.Prelude.{◌≡◌, codes};
 ghost use Rattle.serde_json.specs.View.{view};
 ghost use Rattle.ref_calls.specs.Outcome.{Answers};
 ghost use Rattle.ref_serve.specs.State as spec;
@@ -28,8 +28,22 @@ pub fn registry_in<'s>(
     }
 }
 
-/// The open registry that is asked.
+/// The open registry whose number is under a member, which is needed.
 #[tactic(auto, unfolding(crate::specs::State::registry_under))]
+pub fn registry_under<'s>(
+    alloc: Global,
+    state: &'s State,
+    tree: &Value,
+    field: &str,
+) -> Result<(usize, &'s Open), Stop<Value>>
+    ensures { Answers (λ r. (r.0, r.1.now)) result
+        (spec.registry_under state.now (view tree.now) field.now) }
+{
+    let value = required(alloc, tree, field)?;
+    registry_in(alloc, state, value, field)
+}
+
+/// The open registry that is asked.
 pub fn registry_of<'s>(
     alloc: Global,
     state: &'s State,
@@ -38,6 +52,19 @@ pub fn registry_of<'s>(
     ensures { Answers (λ r. (r.0, r.1.now)) result
         (spec.registry_under state.now (view tree.now) (codes "registry")) }
 {
-    let value = required(alloc, tree, "registry")?;
-    registry_in(alloc, state, value, "registry")
+    registry_under(alloc, state, tree, "registry")
+}
+
+/// The number of the registry of a layer, of an open registry with a number: 0 is that itself, and its parents follow, nearest
+/// first.
+pub fn layer_number(number: usize, open: &Open, layer: usize) -> usize
+    ensures { result ≡ spec.layer_number number open.now.1 layer }
+{
+    if layer == 0 {
+        return number;
+    }
+    match open.parents().get(layer - 1) {
+        Some(parent) => *parent,
+        None => number,
+    }
 }
