@@ -6,11 +6,17 @@
 // `value` is the caller's own object, not a copy; of documents whose URIs mean the same the last counts. An error of the protocol is thrown as an `Error` with its `name` and its further members.
 import { spawn } from "node:child_process";
 
+// An error of the protocol as it is thrown.
+const thrown = (error) => Object.assign(new Error(error.message), error);
+
 export class Patchsard {
     // Calls that wait for their answers: those from the number `#answered` on.
     #waiting = [];
     #answered = 0;
     #lines = [];
+    // Look-ups that aren't among the lines yet: references, all from one registry, base and scope.
+    #lookups = [];
+    #from = "";
     constructor(program = process.env.PATCHSARD ?? "patchsard") {
         this.process = spawn(program, ["serve"], { stdio: ["pipe", "pipe", "inherit"] });
         const parts = []; // of a line that isn't whole yet
@@ -32,7 +38,7 @@ export class Patchsard {
     #answer(line) {
         const { resolve, reject } = this.#first();
         const { result, error } = JSON.parse(line);
-        error ? reject(Object.assign(new Error(error.message), error)) : resolve(result);
+        error ? reject(thrown(error)) : resolve(result);
     }
     // Answers come in the order of the calls. Taking the first of many out of a list would move all others each time.
     #first() {
@@ -45,11 +51,47 @@ export class Patchsard {
         return first;
     }
     call(call, members) {
-        if (this.ended) return Promise.reject(this.ended);
+        return new Promise((resolve, reject) => {
+            const line = JSON.stringify({ call, ...members });
+            this.#askLookups();
+            this.#send(line, { resolve, reject });
+        });
+    }
+    // A look-up of one reference, whose answer is handed to `found`. Those from one registry, base and scope that are made together are one call, of at most 1,000: a list is
+    // answered in less time.
+    lookup(from, reference, found) {
+        // What is no text would be an error of the whole call.
+        if (typeof reference !== "string" || /\p{Surrogate}/u.test(reference)) return this.call("lookup", { ...from, reference }).then(found);
+        return new Promise((resolve, reject) => {
+            const text = JSON.stringify(from);
+            if (text !== this.#from || this.#lookups.length === 1000) this.#askLookups();
+            this.#from = text;
+            if (this.#lookups.length === 0) queueMicrotask(() => this.#askLookups());
+            this.#lookups.push({ reference, found, resolve, reject });
+        });
+    }
+    #askLookups() {
+        const asked = this.#lookups.splice(0);
+        if (asked.length === 0) return;
+        const references = asked.map((it) => it.reference);
+        const line = (reference) => `{"call":"lookup",${this.#from.slice(1, -1)},"reference":${JSON.stringify(reference)}}`;
+        const answered = (answer, { found, resolve, reject }) => {
+            try {
+                answer.error ? reject(thrown(answer.error)) : resolve(found(answer));
+            } catch (error) {
+                reject(error); // where the caller's documents were changed
+            }
+        };
+        const reject = (error) => asked.forEach((it) => it.reject(error));
+        if (asked.length === 1) this.#send(line(references[0]), { resolve: (answer) => answered(answer, asked[0]), reject });
+        else this.#send(line(references), { resolve: (answers) => answers.forEach((answer, number) => answered(answer, asked[number])), reject });
+    }
+    #send(line, waiting) {
+        if (this.ended) return waiting.reject(this.ended);
         // Calls that are made together are written together.
         if (this.#lines.length === 0) queueMicrotask(() => this.process.stdin.write(this.#lines.splice(0).join("")));
-        this.#lines.push(JSON.stringify({ call, ...members }) + "\n");
-        return new Promise((resolve, reject) => this.#waiting.push({ resolve, reject }));
+        this.#lines.push(line + "\n");
+        this.#waiting.push(waiting);
     }
     // The value of a text of YAML.
     async yaml(text) { return (await this.call("yaml", { text })).value; }
@@ -81,18 +123,21 @@ export class Patchsard {
 }
 
 class Registry {
+    #find = (answer) => this.#found(answer);
     constructor(patchsard, number, documents, parent) { Object.assign(this, { patchsard, number, documents, parent }); }
     // A list of references is one call, and gets a list: in each one's place what it leads to, or `{ error }`.
-    async lookup(base, reference, scope = []) {
-        const answer = await this.patchsard.call("lookup", { registry: this.number, base, scope, reference });
-        return Array.isArray(answer) ? answer.map((it) => (it.error ? it : this.#found(it))) : this.#found(answer);
+    lookup(base, reference, scope = []) {
+        const from = { registry: this.number, base, scope };
+        if (!Array.isArray(reference)) return this.patchsard.lookup(from, reference, this.#find);
+        return this.patchsard.call("lookup", { ...from, reference }).then((answers) => answers.map((it) => (it.error ? it : this.#found(it))));
     }
     // The number under which the program keeps a scope: `scope` may be it, or end with it.
     async keep(scope) { return (await this.patchsard.call("scope", { registry: this.number, scope })).scope; }
     close() { return this.patchsard.call("close", { registry: this.number }); }
     #found(answer) {
         if (answer.registry !== this.number) return this.parent.#found(answer);
-        const tokens = answer.pointer.split("/").slice(1).map((it) => it.replaceAll("~1", "/").replaceAll("~0", "~"));
-        return { ...answer, value: tokens.reduce((value, token) => value[token], this.documents[answer.document]) };
+        answer.value = this.documents[answer.document];
+        for (const token of answer.pointer.split("/").slice(1)) answer.value = answer.value[token.includes("~") ? token.replaceAll("~1", "/").replaceAll("~0", "~") : token];
+        return answer;
     }
 }

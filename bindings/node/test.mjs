@@ -44,6 +44,27 @@ test("many calls at once, some of them made while others wait", async () => {
     await Promise.all(Array.from({ length: 3000 }, (_, number) => one(number)));
 });
 
+test("look-ups that are made together are asked together", async () => {
+    const registry = await patchsard.open([[base, order]]);
+    const { stdin } = patchsard.process;
+    const { write } = stdin;
+    let lines = 0;
+    stdin.write = (text, ...more) => ((lines += text.split("\n").length - 1), write.call(stdin, text, ...more));
+    const many = await Promise.all(Array.from({ length: 2500 }, (_, number) => registry.lookup(base, number % 2 ? "#/$defs/item" : "#odd")));
+    assert.ok(many.every(({ value }, number) => value === (number % 2 ? order.$defs.item : order.$defs["a/b~c"])));
+    assert.equal(lines, 3);
+    // Each has its own answer or error, and all come before the call that is made after them.
+    const asked = ["#odd", "#/$defs/itme", "#/$defs/item", "\ud800", "#nothing", 1, "#/examples/0"].map((it) => registry.lookup(base, it));
+    asked.push(registry.lookup("a b", "#"), registry.lookup("a b", "#odd"), registry.lookup(base, "", ["u:x"]), registry.close());
+    const found = await Promise.allSettled(asked);
+    delete stdin.write;
+    assert.deepEqual(found.map((it) => it.reason?.name ?? it.value.value), [
+        order.$defs["a/b~c"], "PointerToNowhere", order.$defs.item, "NotJson", "NoSuchAnchor", "InvalidField", order.examples[0], "InvalidUri", "InvalidUri", order, undefined,
+    ]);
+    assert.deepEqual(found.at(-2).value.scope, ["u:x"]);
+    assert.equal(lines, 11);
+});
+
 test("documents whose URIs mean the same", async () => {
     const [first, second, third] = [{ const: 1 }, { const: 2 }, { const: 3 }];
     const registry = await patchsard.open([["http://a/v", first], ["HTTP://a/v", second], ["http://a/w", third]]);
@@ -83,9 +104,14 @@ test("a scope that is kept", async () => {
 
 test("a program that ends", async () => {
     const other = new Patchsard();
+    const registry = await other.open([[base, order]]);
     other.end();
     await new Promise((resolve) => other.process.on("close", resolve));
     await assert.rejects(other.open([]), /has ended/);
+    for (const asked of [[""], ["", "#odd"]]) {
+        const found = await Promise.allSettled(asked.map((it) => registry.lookup(base, it)));
+        assert.ok(found.every(({ reason }) => /has ended/.test(reason.message)));
+    }
 });
 
 test("documents in YAML", async () => {

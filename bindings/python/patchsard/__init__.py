@@ -2,7 +2,7 @@
 from typing import TYPE_CHECKING, Any
 
 from patchsard import exceptions, jsonschema
-from patchsard._core import Anchor, Dangling, Draft, Registry, Resolved, Resolver, Resource, Retrieved, Surveyed, from_yaml
+from patchsard._core import Anchor, Dangling, Difference, Draft, Registry, Resolved, Resolver, Resource, Retrieved, Surveyed, from_yaml
 from patchsard.exceptions import (
     CallRefused,
     CallTimedOut,
@@ -48,6 +48,7 @@ __all__ = [
     "CallTimedOut",
     "CannotDetermineSpecification",
     "Dangling",
+    "Difference",
     "Draft",
     "Finding",
     "Findings",

@@ -15,6 +15,8 @@ Pairs = Iterable[Tuple[str, Any]]
 _T = TypeVar("_T")
 
 _encode = json.JSONEncoder(separators=(",", ":"), allow_nan=False, ensure_ascii=False).encode
+# The same of a text.
+_encode_text = json.encoder.encode_basestring
 # After as many documents that were retrieved one at a time, they are looked for ahead.
 _ROUNDS = 4
 # In place of a document that isn't there.
@@ -30,6 +32,18 @@ _FRONT = 16
 _MOST_SCOPES = 1000
 # As many values a document may have whose parts are shared, since each is written out where it is.
 _MOST_VALUES = 10_000_000
+# After so many look-ups, one after another, of what stands side by side in a document, others that stand there are asked with the next: so many, and twice as many each time up to
+# the most, where no more than so many stand there.
+_RUN = 4
+_BESIDE = 8
+_MOST_BESIDE = 256
+_MOST_NAMES = 5000
+# By anchors only with a scope that isn't longer, since each answer has it.
+_SHORT_SCOPE = 4
+# Names that are the same in a pointer and in a fragment.
+_is_plain = re.compile(r"[A-Za-z0-9._-]+").fullmatch
+# As many beginnings of the lines of look-ups are kept for a registry.
+_MOST_HEADS = 1000
 # As many answers of a registry are kept; a dynamic anchor's only where the scope isn't longer.
 _MOST_KEPT = 10000
 _LONG_SCOPE = 32
@@ -329,10 +343,28 @@ class _Closed(ProcessEnded):
     """The registry was closed in the program, by another thread, since it was opened."""
 
 
+class _Run:
+    """Look-ups, one after another, of what stands side by side in a document: members of one object, items of one list, or schemas there with an anchor. What it has is a guess at what is
+    asked next, which other threads may change: nothing that is answered depends on it."""
+
+    __slots__ = ("key", "count", "answer", "stands", "at", "window", "kept")
+
+    def __init__(self) -> None:
+        self.begin(None)
+
+    def begin(self, key: Any) -> None:
+        """Begins with a look-up: from which base, what is before the last name of its reference, and whether it is the first."""
+        self.key, self.count, self.window = key, 1, _BESIDE
+        self.answer: Optional[Dict[str, Any]] = None
+        # What they stand in, with the names there, those after that of the answer first; up to which of these were asked, and how many answers were kept then.
+        self.stands: Optional[Tuple[Any, List[str]]] = None
+        self.at = self.kept = 0
+
+
 class _Opened:
     """A registry as the program has it, until nothing refers to it."""
 
-    __slots__ = ("process", "number", "documents", "parent", "timeout", "share", "uris", "unmet", "identified", "kept", "scopes", "close", "__weakref__")
+    __slots__ = ("process", "number", "documents", "parent", "timeout", "share", "uris", "unmet", "identified", "kept", "heads", "run", "scopes", "close", "__weakref__")
 
     def __init__(self, process: _process.Process, number: int, documents: List[Schema], parent: Optional["_Opened"], timeout: Optional[float] = None, size: int = 0) -> None:
         self.process = process
@@ -346,6 +378,9 @@ class _Opened:
         self.identified: Dict[str, str] = {} if parent is None else dict(parent.identified)
         # Answers that were had before: an open registry doesn't change.
         self.kept: Dict[Any, Any] = {}
+        # How the lines of look-ups begin, by the base and the scope that is sent.
+        self.heads: Dict[Any, str] = {}
+        self.run = _Run()
         # The numbers of the scopes that the program keeps for it.
         self.scopes: Dict[Tuple[str, ...], int] = {}
         self.timeout = timeout
@@ -357,7 +392,8 @@ class _Opened:
 
     def value(self, answer: Dict[str, Any]) -> Schema:
         """The caller's value at the place that an answer names."""
-        document = self.layer(answer["registry"]).documents[answer["document"]]
+        number = answer["registry"]
+        document = (self if number == self.number else self.layer(number)).documents[answer["document"]]
         if document is _MISSING:
             error = Unretrievable(answer["base"], "The document isn't there")
             error.uri = answer["base"]
@@ -397,7 +433,46 @@ class _Opened:
 
     def keep(self, key: Any, found: Any) -> None:
         """Keeps what was found for the next time."""
-        self.room_for(1)[key] = found
+        kept = self.kept
+        if len(kept) >= _MOST_KEPT:
+            kept.clear()
+        kept[key] = found
+
+    def beside(self, base: str, ref: str, is_first: bool) -> List[str]:
+        """References to what stands beside the target of one that is asked now and wasn't before, to be asked with it: none but where several before it led there too."""
+        run = self.run
+        head = ref[: max(ref.rfind("#"), ref.rfind("/")) + 1]
+        key = (base, head, is_first)
+        if run.key != key or "#" not in head:
+            run.begin(key)
+            return []
+        run.count += 1
+        answer, stands = run.answer, run.stands
+        if run.count < _RUN or answer is None:
+            return []
+        if stands is None or len(self.kept) < run.kept:
+            stands = run.stands = self._standing(answer)
+            run.at = 0
+        value, names = stands
+        begin, end = run.at, run.at + min(run.window, _MOST_KEPT // 4)
+        run.at, run.window, run.kept = end, min(2 * run.window, _MOST_BESIDE), len(self.kept)
+        refs = [it for name in names[begin:end] for it in _refs_to(head, value, name)]
+        return [it for it in refs if it != ref and (base, it, is_first) not in self.kept]
+
+    def _standing(self, answer: Dict[str, Any]) -> Tuple[Any, List[str]]:
+        """What the value of an answer stands in, with the names there, those after its own first; none of more than can be gone through in little time."""
+        above, _, last = answer["pointer"].rpartition("/")
+        document = self.layer(answer["registry"]).documents[answer["document"]]
+        value = None if document is _MISSING or not answer["pointer"] else _at(document, above)
+        if not isinstance(value, (dict, list, tuple)) or len(value) > _MOST_NAMES:
+            return None, []
+        if isinstance(value, dict):
+            names = list(value)
+            after = names.index(last) + 1 if last in value else 0
+        else:
+            names = [str(it) for it in range(len(value))]
+            after = int(last) + 1
+        return value, names[after:] + names[:after]
 
     def without(self, uris: Set[str]) -> Set[str]:
         """Those of some URIs under which there is no document here or in the parents."""
@@ -416,16 +491,47 @@ class _Opened:
 
     def ask(self, ref: str, call: str, members: str = "") -> Any:
         """What the program answers, or the exception for its error."""
+        return self.answer(ref, f'{{"call":"{call}","registry":{self.number}{members}}}\n')
+
+    def looked_up(self, base: str, scope: Tuple[Union[str, int], ...], ref: str) -> Any:
+        """What the program answers to a look-up of one reference."""
+        head = self.heads.get((base, scope))
+        if head is None:
+            head = f'{{"call":"lookup","registry":{self.number}{self.members(base, scope)},"reference":'
+            if len(scope) <= 1:
+                if len(self.heads) >= _MOST_HEADS:
+                    self.heads.clear()
+                self.heads[base, scope] = head
+        return self.answer(ref, f"{head}{_encode_text(ref)}}}\n")
+
+    def members(self, base: str, scope: Sequence[Union[str, int]]) -> str:
+        """The base and the scope as members of a call."""
+        return f',"base":{_encode_text(self.identified.get(base, base))},"scope":{_encode(scope)}'
+
+    def answer(self, ref: str, line: str) -> Any:
+        """What the program answers to a line, or the exception for its error."""
         try:
-            line = f'{{"call":"{call}","registry":{self.number}{members}}}\n'.encode("utf-8")
+            sent = line.encode()
         except UnicodeEncodeError:
             raise _half_pair(ref) from None
-        answer = self.process.ask(line, self.timeout)
+        answer = self.process.ask(sent, self.timeout)
         if "error" in answer:
             if answer["error"]["name"] == "UnknownRegistry":
                 raise _Closed(answer["error"]["message"])
             raise from_answer(answer["error"], ref)
         return answer["result"]
+
+
+def _refs_to(head: str, value: Any, name: str) -> List[str]:
+    """The references that begin so and lead to the member or the item with a name: by a pointer, or by the anchors there."""
+    if head[-1] == "/":
+        return [head + (name if _is_plain(name) else _fragment(name.replace("~", "~0").replace("/", "~1")))]
+    found = value.get(name) if isinstance(value, dict) else value[int(name)]
+    if not isinstance(found, dict):
+        return []
+    anchor, own = found.get("$anchor"), found.get("$id", found.get("id"))
+    texts = [anchor] if isinstance(anchor, str) else [own[1:]] if isinstance(own, str) and own[:1] == "#" else []
+    return [head + it for it in texts if _is_plain(it)]
 
 
 class _Unmet(NamedTuple):
@@ -796,6 +902,27 @@ class Registry(Mapping[str, Resource]):
 
         return self._as_one()._opened_as_far()._again(listed)
 
+    def compare(self, after: "Registry", moves: "Iterable[Tuple[Tuple[str, str], Tuple[str, str]]]" = ()) -> "Optional[Difference]":
+        """What differs first where these documents are changed to those of `after`, which has them in the same order; or `None` where each reference keeps leading where it led, under
+        every dynamic scope. `moves` says which values are elsewhere then, by the URIs of their documents and JSON Pointers there; what is in such a value moves along.
+        With `allow_missing`, a reference into a document that isn't there counts as none.
+
+        >>> before = Registry({"u:a": {"$ref": "#/$defs/b", "$defs": {"b": {}}}})
+        >>> after = Registry({"u:a": {"$ref": "#/$defs/c", "$defs": {"c": {}}}})
+        >>> before.compare(after, [(("u:a", "/$defs/b"), ("u:a", "/$defs/c"))]) is None
+        True
+        >>> told = before.compare(after)
+        >>> told.pointer, told.what, told.keyword, told.led, told.leads
+        ('', 'OtherReference', '$ref', ('u:a', '/$defs/b'), ('u:a', '/$defs/c'))
+        """
+        one, other, pairs = self._as_one(), after._as_one(), list(moves)
+        try:
+            return _compared(*_side_by_side(one, other), pairs)
+        except ProcessEnded:
+            # Asking changes nothing, so it is asked once more.
+            one._opened = other._opened = None
+            return _compared(*_side_by_side(one, other), pairs)
+
     def bundle(self, uri: str) -> Schema:
         """A document with all others that it needs in it, as a new value. With `allow_missing` references to documents that aren't there stay as they are.
 
@@ -1036,7 +1163,7 @@ class Registry(Mapping[str, Resource]):
         self, process: _process.Process, parent: Optional[_Opened], texts: Dict[str, str], remote: Dict[str, str], missing: Set[str], mended: List[Tuple[str, Dict[str, Any]]]
     ) -> bool:
         """Puts `null` in place of the texts that are no URI references, and of the references to documents that are missing, so that the program opens the other references and
-        identifiers; whether there were any. Where nothing is retrieved, all are missing that the parents don't have."""
+        identifiers, and takes such an identifier of a root away; whether there were any. Where nothing is retrieved, all are missing that the parents don't have."""
         faults = list(self._faults(process, texts, remote))
         if self._retrieve is None:
             wanted = {it["error"]["uri"] for _, it in faults if it["error"]["name"] == "Unretrievable"} - missing
@@ -1054,7 +1181,11 @@ class Registry(Mapping[str, Resource]):
             among = texts if uri in texts else remote
             tree = json.loads(among[uri])
             for fault in those:
-                _at(tree, fault["pointer"])[fault["keyword"]] = None
+                schema, keyword = _at(tree, fault["pointer"]), fault["keyword"]
+                schema[keyword] = None
+                if not fault["pointer"] and keyword in ("$id", "id"):
+                    # A bundle gives an identifier to a root that has none.
+                    del schema[keyword]
             among[uri] = _encode(tree)
         return bool(faulty)
 
@@ -1194,6 +1325,58 @@ class Dangling(NamedTuple):
         return _at(self.document, self.pointer)
 
 
+class Difference(NamedTuple):
+    """What differs of a subschema: the URI of its document before and the pointer to it there, and what, by the name that `docs/PROTOCOL.md` gives it. Of a reference also its keyword, its
+    texts before and after, and where each leads, as the URI of a document and a pointer."""
+
+    uri: str
+    pointer: str
+    what: str
+    keyword: Optional[str] = None
+    reference: Optional[str] = None
+    now: Optional[str] = None
+    led: Optional[Tuple[str, str]] = None
+    leads: Optional[Tuple[str, str]] = None
+
+
+def _side_by_side(one: Registry, other: Registry) -> Tuple[_Opened, _Opened]:
+    """Two registries, opened in one process."""
+    opened, then = one._open(), other._open()
+    if opened.process is not then.process:
+        one.close()
+        other.close()
+        opened, then = one._open(), other._open()
+    return opened, then
+
+
+def _compared(opened: _Opened, then: _Opened, moves: Sequence[Tuple[Tuple[str, str], Tuple[str, str]]]) -> Optional[Difference]:
+    sent = [[_address(opened, of), _address(then, to)] for of, to in moves]
+    told = opened.ask("", "compare", f',"after":{then.number},"moves":{_encode(sent)}')["difference"]
+    if told is None:
+        return None
+    before, now = told.get("before"), told.get("after")
+    texts = (None, None) if before is None else (before["reference"], now["reference"])
+    ends = (None, None) if before is None else (_end(opened, before), _end(then, now))
+    return Difference(opened.uris[told["document"]], told["pointer"], told["what"], told.get("keyword"), *texts, *ends)
+
+
+def _address(opened: _Opened, address: Tuple[str, str]) -> List[Any]:
+    uri, pointer = address
+    try:
+        found = opened.ask(uri, "lookup", f',"base":{_encode(uri)},"reference":"#"')
+    except Unresolvable:
+        raise NoSuchResource(uri) from None
+    if found["registry"] != opened.number or found["pointer"]:
+        raise NoSuchResource(uri)
+    return [found["document"], pointer]
+
+
+def _end(opened: _Opened, told: Dict[str, Any]) -> Optional[Tuple[str, str]]:
+    if "document" not in told:
+        return None
+    return opened.layer(told["registry"]).uris[told["document"]], told["pointer"]
+
+
 class Surveyed(NamedTuple):
     """A place of a document: the document, the pointer to the place there, its base URI, the kind of object that it is (`"schema"`, `"path item"`, ..), the version of the
     description that it is in, and of a schema that is read by a draft of JSON Schema the draft."""
@@ -1271,6 +1454,11 @@ class Resolver:
         """Where a reference leads. Raises `Unresolvable`, or a class below it, where it finds nothing."""
         if not isinstance(ref, str):
             raise TypeError(f"A reference is a str; this is {type(ref).__name__}")
+        opened = self._registry._opened
+        if opened is not None and not opened.process.ended:
+            found = opened.kept.get((self._base_uri, ref, not self._scope))
+            if found is not None:
+                return self._from(found)
         return self._lookup(ref)
 
     @overload
@@ -1400,8 +1588,7 @@ class Resolver:
         return f"<Resolver at {self._base_uri!r}>"
 
     def _members(self, opened: _Opened, scope: Sequence[Union[str, int]]) -> str:
-        base = self._base_uri
-        return f',"base":{_encode(opened.identified.get(base, base))},"scope":{_encode(scope)}'
+        return opened.members(self._base_uri, scope)
 
     def _sent_scope(self, opened: _Opened, is_by_scope: bool) -> Tuple[Union[str, int], ...]:
         """As much of the scope as matters: all of it to a dynamic anchor; to others whether it is empty, so that the innermost is enough. Of a long one the program keeps the end."""
@@ -1419,26 +1606,48 @@ class Resolver:
 
     def _found(self, opened: _Opened, ref: str) -> Resolved:
         """Where a reference leads in the opened registry."""
-        is_by_scope = _is_by_scope(ref)
-        key: Any = (self._base_uri, ref, not self._scope)
+        base, scope = self._base_uri, self._scope
+        key: Any = (base, ref, not scope)
         found = opened.kept.get(key)
-        if found is None:
-            sent = self._sent_scope(opened, is_by_scope)
-            if is_by_scope and len(sent) <= _LONG_SCOPE:
-                found = opened.kept.get((self._base_uri, ref, sent))
-        if found is None:
-            members = self._members(opened, sent)
-            answer = opened.ask(ref, "lookup", members + ',"reference":' + _encode(ref))
-            before = tuple(answer["scope"][: len(answer["scope"]) - len(sent)])
-            if opened.identified:
-                answer = self._identified(opened, ref, members, answer)
-            contents = opened.value(answer)
-            found = (contents, answer["base"], before, answer["draft"])
-            if not is_by_scope or not _is_dynamic(contents, ref):
-                opened.keep(key, found)
-            elif len(sent) <= _LONG_SCOPE:
-                opened.keep((self._base_uri, ref, sent), found)
+        if found is not None:
+            return self._from(found)
+        is_by_scope = _is_by_scope(ref)
+        sent = self._sent_scope(opened, True) if is_by_scope and scope else scope[:1]
+        if is_by_scope and len(sent) <= _LONG_SCOPE:
+            found = opened.kept.get((base, ref, sent))
+            if found is not None:
+                return self._from(found)
+        beside = opened.beside(base, ref, not scope) if not is_by_scope or len(sent) <= _SHORT_SCOPE else []
+        answer = self._looked_up_with(opened, sent, ref, beside) if beside else opened.looked_up(base, sent, ref)
+        opened.run.answer = answer
+        in_front = answer["scope"]
+        before = tuple(in_front[: len(in_front) - len(sent)] if sent else in_front)
+        if opened.identified:
+            answer = self._identified(opened, ref, self._members(opened, sent), answer)
+        contents = opened.value(answer)
+        found = (contents, answer["base"], before, answer["draft"])
+        if not is_by_scope or not _is_dynamic(contents, ref):
+            opened.keep(key, found)
+        elif len(sent) <= _LONG_SCOPE:
+            opened.keep((base, ref, sent), found)
         return self._from(found)
+
+    def _looked_up_with(self, opened: _Opened, sent: Tuple[Union[str, int], ...], ref: str, others: List[str]) -> Dict[str, Any]:
+        """What the program answers to a look-up, with which others are asked, whose answers are kept."""
+        base, is_first, kept = self._base_uri, not self._scope, opened.room_for(len(others) + 1)
+        first, *answers = opened.ask(ref, "lookup", f'{self._members(opened, sent)},"reference":{_encode([ref, *others])}')
+        for other, answer in zip(others, answers):
+            if "error" in answer or opened.identified and opened.uri_of(answer) in opened.identified:
+                continue
+            try:
+                contents = opened.value(answer)
+            except Unretrievable:
+                continue
+            if not _is_by_scope(other) or not _is_dynamic(contents, other):
+                kept[base, other, is_first] = (contents, answer["base"], tuple(answer["scope"][: len(answer["scope"]) - len(sent)]), answer["draft"])
+        if "error" in first:
+            raise from_answer(first["error"], ref)
+        return first
 
     def _from(self, found: _Found) -> Resolved:
         """What was found, from here."""

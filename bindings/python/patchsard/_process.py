@@ -125,23 +125,29 @@ class Process:
     def ask(self, line: bytes, timeout: Optional[float] = None) -> Dict[str, Any]:
         """The answer to a line, within so many seconds from now, other threads' calls before it among them. A `RuntimeError` where a signal handler asks while the
         call that it interrupted waits for its answer."""
-        if self._is_nested():
+        thread = threading.get_ident()
+        if self._is_amid and self._asking == thread:
             raise RuntimeError("A signal handler asks the program patchsard, while the call that it interrupted waits for its answer")
-        until = None if timeout is None else time.monotonic() + timeout
-        if not self._lock.acquire(timeout=-1 if timeout is None else max(timeout, 0)):
-            raise CallTimedOut(f"Other threads' calls took the {timeout} seconds that a call may take")
+        if timeout is None:
+            until = None
+            self._lock.acquire()
+        else:
+            until = time.monotonic() + timeout
+            if not self._lock.acquire(timeout=max(timeout, 0)):
+                raise CallTimedOut(f"Other threads' calls took the {timeout} seconds that a call may take")
         try:
-            before, self._asking = self._asking, threading.get_ident()
+            before, self._asking = self._asking, thread
             try:
-                self._close_waiting(until)
+                if self._to_close or self._to_count:
+                    self._close_waiting(until)
+                line, number = self._numbered(line)
                 answer = self._exchange(line, until)
-                number = self._number if _has_members(line) else None
             finally:
                 self._asking = before
         finally:
             self._lock.release()
         try:
-            decoded = _decoded(answer.decode("utf-8"), 0)[0]
+            decoded = _decoded(answer.decode(), 0)[0]
         except (ValueError, StopIteration):
             raise ProcessEnded(f"{self._program} answers what is no JSON") from None
         if not isinstance(decoded, dict) or "result" not in decoded and "error" not in decoded:
@@ -149,6 +155,13 @@ class Process:
         if decoded.get("id") != number:
             self._has_answered(decoded)
         return decoded
+
+    def _numbered(self, line: bytes) -> Tuple[bytes, Optional[int]]:
+        """A call with the next number, and the number; what is no call has none. Between a call and its answer the garbage collector may close registries, and a signal handler ask."""
+        if not _has_members(line):
+            return line, None
+        number = self._number = self._number + 1
+        return b"".join((b'{"id":%d,' % number, memoryview(line)[1:])), number
 
     def _has_answered(self, decoded: Dict[str, Any]) -> None:
         """Whether an answer without the number of its call is one to it: where memory ran out there is none, and where a line is no JSON. Else the program is ended, so that no
@@ -233,9 +246,6 @@ class Process:
             self._end(is_answering=True)
         if self.ended:
             raise ProcessEnded("The program patchsard has ended")
-        if _has_members(line):
-            self._number += 1
-            line = b"".join((b'{"id":%d,' % self._number, memoryview(line)[1:]))
         try:
             self._is_amid = self.asked = True
             try:
@@ -247,7 +257,7 @@ class Process:
             if until is not None:
                 self._wait(self._output, select.POLLIN, until)
             answer = os.read(self._output, _MOST)
-            if answer[-1:] != b"\n":
+            if not answer.endswith(b"\n"):
                 answer = self._read_on(answer, until)
             self._is_amid = False
             return answer

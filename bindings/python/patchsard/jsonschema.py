@@ -5,6 +5,7 @@
 """
 from __future__ import annotations
 
+import copyreg
 from typing import Any, Callable, Iterator, NamedTuple, Optional, Tuple
 
 from patchsard._core import DRAFT4, DRAFT6, DRAFT7, DRAFT201909, DRAFT202012, Draft, Registry, Resolved, Resolver, Resource, _BY_URI
@@ -45,6 +46,7 @@ def validator_for(schema: Any, *, registry: Any = None, retrieve: Optional[Calla
     `registry` is a `Registry` or one of Python's `referencing`, `retrieve` a function as a `Registry` takes it, whose documents without `$schema` have the draft of the
     validator, `default` the class for a schema without
     `$schema`, and further options, such as `format_checker`, are those of the class. A reference to a document that isn't there is an error where it is followed.
+    A validator can be copied, and pickled where its class, its registry and its options can: a function to retrieve is pickled by its name, and a registry of `referencing` isn't.
     """
     import jsonschema.validators
 
@@ -70,7 +72,20 @@ def validator_for(schema: Any, *, registry: Any = None, retrieve: Optional[Calla
     resource = Resource(schema, draft)
     own = registry._with_root(resource)
     own._allow_missing = True
+    # `jsonschema` holds what can't be pickled in each of its validators.
+    copyreg.pickle(kind, _reduced)
     return kind(schema, _resolver=_Resolver(own.resolver("").in_subresource(resource)), **options)
+
+
+def _reduced(validator: Any) -> Tuple[Any, ...]:
+    """How a validator is copied and pickled; one of `jsonschema` itself as without this."""
+    if isinstance(validator._resolver, _Resolver):
+        return _validator, (type(validator), validator.schema, validator._resolver, validator.format_checker)
+    return object.__reduce_ex__(validator, 4)  # type: ignore[return-value]
+
+
+def _validator(kind: Any, schema: Any, resolver: "_Resolver", format_checker: Any) -> Any:
+    return kind(schema, _resolver=resolver, format_checker=format_checker)
 
 
 class _Resolved(NamedTuple):
@@ -85,6 +100,9 @@ class _Resolver:
 
     def __init__(self, resolver: Resolver) -> None:
         self._resolver = resolver
+
+    def __reduce__(self) -> Tuple[Any, ...]:
+        return _Resolver, (self._resolver,)
 
     def lookup(self, ref: str) -> _Resolved:
         try:

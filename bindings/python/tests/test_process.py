@@ -2,8 +2,10 @@
 import concurrent.futures
 import copy
 import gc
+import importlib.util
 import os
 import pickle
+import re
 import shutil
 import signal
 import subprocess
@@ -110,18 +112,35 @@ class OneProcess(unittest.TestCase):
         resolver = registry().resolver("https://example.com/a")
         resolver.lookup("#/$defs/1")
         process, exchange = _process.shared(), _process.Process._exchange
-        stale = exchange(process, b'{"call":"hello"}\n')
+        stale = exchange(process, b'{"id":0,"call":"hello"}\n')
 
         def late(self, line, until=None):
-            if self is not process:
-                return exchange(self, line, until)
-            self._number += 1
-            return stale
+            return exchange(self, line, until) if self is not process else stale
 
         with mock.patch.object(_process.Process, "_exchange", late):
             self.assertIs(resolver.lookup("#/$defs/2").contents, SCHEMA["$defs"]["2"])
         self.assertTrue(process.ended)
         self.assertIs(resolver.lookup("#/$defs/3").contents, SCHEMA["$defs"]["3"])
+
+    def test_what_is_closed_and_asked_between_a_call_and_its_answer(self):
+        """The garbage collector may close a registry, and a signal handler ask, right after an answer was read: it is still the answer to its call."""
+        resolver = registry().resolver("https://example.com/a")
+        resolver.lookup("#/$defs/1")
+        process, exchange, between = _process.shared(), _process.Process._exchange, []
+
+        def amid(self, line, until=None):
+            answer = exchange(self, line, until)
+            if between:
+                between.pop()()
+            return answer
+
+        other = registry().crawl()
+        with mock.patch.object(_process.Process, "_exchange", amid):
+            for key, does in (("11", other.close), ("12", lambda: resolver.lookup("#/$defs/9")), ("45", lambda: registry().crawl())):
+                between.append(does)
+                self.assertIs(resolver.lookup("#/$defs/" + key).contents, SCHEMA["$defs"][key])
+                self.assertEqual(between, [])
+        self.assertFalse(process.ended)
 
     def test_an_answer_without_the_number_of_its_call(self):
         asked = []
@@ -137,8 +156,9 @@ class OneProcess(unittest.TestCase):
             self.assertEqual(_process.shared().ask(broken)["error"]["name"], "NotJson")
             resolver = registry().resolver("https://example.com/a")
             resolver.lookup("#/$defs/1")
-        self.assertNotIn(b'"id"', dict(asked)[broken])
-        others = [answer for line, answer in asked if line != broken]
+        (without,) = [answer for line, answer in asked if line.endswith(broken[1:])]
+        self.assertNotIn(b'"id"', without)
+        others = [answer for line, answer in asked if answer != without and b'"call":"close"' not in line]
         self.assertGreater(len(others), 1)
         for answer in others:
             self.assertRegex(answer.decode(), r'^{"id":\d+,"result":')
@@ -189,6 +209,31 @@ class OneProcess(unittest.TestCase):
             self.assertTrue(1.9 < time.monotonic() - begin < 20, time.monotonic() - begin)
             self.assertIs(resolver.lookup("#/$defs/3").contents, SCHEMA["$defs"]["3"])
             self.assertNotEqual(_process.shared().pid, pid)
+
+    def test_each_call_has_the_limit_of_time(self):
+        """Also those by which a registry is opened: of what is retrieved, of faults, of texts of YAML and of the drafts' meta-schemas."""
+        asked = []
+        ask = _process.Process.ask
+
+        def seen(process, line, timeout=None):
+            asked.append((re.match(rb'{"call":"(\w+)"', line)[1].decode(), timeout))
+            return ask(process, line, timeout)
+
+        chain = {f"u:{it}": {"$ref": f"u:{it + 1}", "not": {"$ref": f"u:gone{it}"}} for it in range(12)}
+        chain["u:12"] = {"$ref": patchsard.jsonschema.DRAFT7.uri} if importlib.util.find_spec("jsonschema_specifications") else {}
+        chain["u:11"]["$id"] = "a b"
+        with mock.patch.object(_process, "_shared", None), mock.patch.object(_process.Process, "ask", seen):
+            held = Registry({"u:0": chain["u:0"]}, retrieve=chain.get, allow_missing=True, timeout=50).with_yaml("u:y", "$dynamicAnchor: n")
+            resolver = held.resolver("u:0")
+            resolver.lookup("u:9")
+            resolver.lookup_all(["#", "u:8"])
+            resolver.in_subresource({"$id": "u:7"})
+            resolver.lookup_recursive_ref()
+            patchsard.Resolver(held, "u:0", [f"u:{it % 13}" for it in range(40)]).lookup("u:y#n")
+            held.dangling(), held.survey(), held.bundle("u:0")
+            _process.shared().stop()
+        self.assertEqual({timeout for _, timeout in asked}, {50})
+        self.assertEqual({name for name, _ in asked}, {"yaml", "open", "faults", "places", "lookup", "enter", "recursive", "scope", "dangling", "survey", "bundle"})
 
     def test_a_call_that_waits_too_long_for_another(self):
         resolver = Registry({"u:a": SCHEMA}, timeout=2).resolver("u:a")

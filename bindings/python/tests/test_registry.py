@@ -313,6 +313,27 @@ class Registries(unittest.TestCase):
         more = registry.crawl().with_resource("https://example.com/b", {"$ref": "a#x"})
         self.assertEqual([type(it.error) for it in more.dangling()], [patchsard.PointerToNowhere, patchsard.NoSuchAnchor])
 
+    def test_compare(self):
+        before = Registry({"https://h/a": {"$ref": "b#/$defs/x"}, "https://h/b": {"$defs": {"x": {"items": {"$ref": "#/$defs/x"}}}}})
+        after = Registry({"https://h/a": {"$ref": "c#/$defs/y"}, "https://h/c": {"$defs": {"y": {"items": {"$ref": "#/$defs/y"}}}}})
+        renamed = [(("https://h/b", "/$defs/x"), ("https://h/c", "/$defs/y"))]
+        self.assertIsNone(before.compare(before))
+        self.assertIsNone(before.compare(after, renamed))
+        self.assertIsNone(after.compare(before, [(to, of) for of, to in renamed]))
+        told = before.compare(after)
+        self.assertEqual(told, ("https://h/a", "", "OtherReference", "$ref", "b#/$defs/x", "c#/$defs/y", ("https://h/b", "/$defs/x"), ("https://h/c", "/$defs/y")))
+        forgotten = Registry({"https://h/a": {"$ref": "c#/$defs/y"}, "https://h/c": {"$defs": {"y": {"items": {"$ref": "#/$defs/x"}}}}})
+        told = before.compare(forgotten, renamed)
+        self.assertEqual((told.uri, told.pointer, told.what, told.now, told.leads), ("https://h/b", "/$defs/x/items", "OtherReference", "#/$defs/x", None))
+        # A reference into a document that isn't there counts as none.
+        without = Registry({"https://h/a": {"$ref": "b#/$defs/x"}, "https://h/c": {"$defs": {"y": {"items": {"$ref": "#/$defs/y"}}}}}, allow_missing=True)
+        self.assertEqual(before.compare(without, renamed)[:4], ("https://h/a", "", "OtherText", "$ref"))
+        with self.assertRaises(patchsard.NoSuchResource):
+            before.compare(after, [(("https://h/none", ""), ("https://h/c", ""))])
+        # Where the two are open in two processes, both are opened anew.
+        before._open().process.stop()
+        self.assertIsNone(before.compare(after, renamed))
+
     def test_bundle(self):
         registry = Registry([("https://example.com/a", {"$id": "https://example.com/a", "$ref": "b"}), ("https://example.com/b", {"type": "string"})])
         bundle = registry.bundle("https://example.com/a")
@@ -482,6 +503,12 @@ class Retrieval(unittest.TestCase):
         b = {"$id": "https://example.com/b", "not": {"$ref": "gone"}, "items": {"$id": "e f", "type": "null"}}
         registry = Registry({"https://example.com/a": a, "https://example.com/b": b}, allow_missing=True)
         self.assertEqual(registry.bundle("https://example.com/a"), {**a, "$defs": {"https://example.com/b": b}})
+        # The root of an embedded document gets the identifier under which it is asked for.
+        c, named = {"$id": "My Schema", "$ref": "b"}, {"$id": "Other Schema", "type": "null"}
+        registry = Registry({"https://example.com/c": c, "https://example.com/b": named}, allow_missing=True)
+        self.assertEqual(registry.bundle("https://example.com/c"), {**c, "$defs": {"https://example.com/b": {**named, "$id": "https://example.com/b"}}})
+        self.assertEqual(registry.bundle("https://example.com/b"), named)
+        self.assertIs(registry.resolver("https://example.com/c").lookup("b").contents, named)
         with self.assertRaises(patchsard.Unresolvable):
             Registry({"https://example.com/a": a, "https://example.com/b": b}).bundle("https://example.com/a")
 
@@ -714,6 +741,34 @@ class Asked(unittest.TestCase):
             resolver = registry.resolver_with_root({"$ref": "https://example.com/7#/$defs/t"})
             self.assertEqual(resolver.lookup("https://example.com/7#/$defs/t").contents, documents["https://example.com/7"]["$defs"]["t"])
         self.assertLess(sum(len(line) for line in self.lines if b"x" * 200 in line), 5 * 50 * 300)
+
+    def test_what_stands_beside_is_asked_with_the_others(self):
+        """Look-ups of what stands side by side, one after another, take few lines, and each has its own answer."""
+        odd = ["a/b", "~", "%", "é ", "", "x-1", "#", "9"]
+        defs = {**{f"p{it}": {"$anchor": f"n{it}"} for it in range(300)}, **{key: {"$anchor": f"o{it}", "const": key} for it, key in enumerate(odd)}, "inner": {"$id": "inner", "$anchor": "n7"}}
+        document = {"$id": BASE, "$defs": defs, "allOf": [{"$dynamicAnchor": f"d{it}", "$anchor": f"a{it}"} for it in range(40)]}
+        with Registry({BASE: document, "https://example.com/2": {"$ref": "order#/$defs/p0"}}) as registry:
+            fragments = ["#/$defs/" + urllib.parse.quote(key.replace("~", "~0").replace("/", "~1"), safe="~") for key in defs]
+            pointers = [(it, defs[key]) for it, key in zip(fragments, defs)]
+            anchors = [(f"#n{it}", defs[f"p{it}"]) for it in range(300)] + [(f"#o{it}", defs[key]) for it, key in enumerate(odd)]
+            items = [(f"#/allOf/{it}", value) for it, value in enumerate(document["allOf"])] + [(f"#a{it}", value) for it, value in enumerate(document["allOf"])]
+            for start in (registry.resolver(BASE), registry.resolver("https://example.com/2").lookup("order").resolver, registry.resolver("https://example.com/2")):
+                prefix = "" if start.base_uri == BASE else "order"
+                for pairs, most in ((pointers, 20), (list(reversed(pointers[:100])), 0), (anchors, 20), (items, 20), ([(f"#d{it}", value) for it, value in enumerate(document["allOf"])], 80)):
+                    before = len(self.calls("lookup"))
+                    for ref, value in pairs:
+                        found = start.lookup(prefix + ref)
+                        self.assertIs(found.contents, value, ref)
+                        (asked,) = patchsard.Resolver(registry, start.base_uri, start._scope).lookup_all([prefix + ref])
+                        self.assertEqual(found, asked)
+                    self.assertLessEqual(len(self.calls("lookup")) - before, most)
+            opened = registry._open()
+            for (base, ref, is_first), (value, found_base, in_front, draft) in [it for it in opened.kept.items() if isinstance(it[0][2], bool)]:
+                scope = [] if is_first else ["https://example.com/2"]
+                answer = opened.ask(ref, "lookup", f',"base":"{base}","scope":{patchsard._core._encode(scope)},"reference":{patchsard._core._encode(ref)}')
+                self.assertIs(opened.value(answer), value)
+                self.assertEqual((answer["base"], answer["draft"], answer["scope"]), (found_base, draft, [*in_front, *scope]))
+            self.assertGreater(len(opened.kept), 1000)
 
     def test_what_is_kept_has_an_end(self):
         resolver = Registry({"u:a": {"$defs": {str(it): {"const": it} for it in range(200)}}}).resolver("u:a")

@@ -1,5 +1,7 @@
 """Validators of Python's `jsonschema`, where it is installed."""
+import concurrent.futures
 import copy
+import pickle
 import unittest
 
 from patchsard import Registry, Unresolvable
@@ -115,12 +117,41 @@ class Validators(unittest.TestCase):
     def test_copies(self):
         validator = validator_for({"$id": "https://example.com/a", "$ref": "b"}, registry=Registry({"https://example.com/b": {"type": "string"}}))
         self.assertTrue(validator.is_valid("a"))
-        for copied in (copy.copy(validator), copy.deepcopy(validator)):
+        for copied in (copy.copy(validator), copy.deepcopy(validator), pickle.loads(pickle.dumps(validator)), pickle.loads(pickle.dumps(validator, 0))):
             self.assertEqual([copied.is_valid(it) for it in ("a", 1)], [True, False])
+        plain = jsonschema.Draft202012Validator({"type": "string"})
+        for copied in (copy.copy(plain), copy.deepcopy(plain)):
+            self.assertEqual([copied.is_valid(it) for it in ("a", 1)], [True, False])
+
+    def test_pickled_options(self):
+        schema = {"properties": {"a": {"format": "ipv4"}, "b": {"$ref": "gone"}, "c": {"$ref": "#/$defs/n"}}, "$defs": {"n": {"type": "null"}}}
+        validator = validator_for(schema, default=jsonschema.Draft201909Validator, format_checker=jsonschema.FormatChecker())
+        copied = pickle.loads(pickle.dumps(validator))
+        self.assertIsInstance(copied, jsonschema.Draft201909Validator)
+        self.assertEqual([copied.is_valid({"a": it}) for it in ("127.0.0.1", "127.0.0")], [True, False])
+        self.assertEqual([copied.is_valid({"c": it}) for it in (None, 1)], [True, False])
+        with self.assertRaises(referencing.exceptions.Unresolvable):
+            copied.is_valid({"b": 1})
+
+    def test_a_pool_of_processes(self):
+        validator = validator_for({"items": {"$ref": "https://example.com/b"}}, registry=Registry({"https://example.com/b": {"type": "string"}}))
+        with concurrent.futures.ProcessPoolExecutor(2) as pool:
+            jobs = [pool.submit(validator.is_valid, it) for it in (["a"], [1], [])]
+            self.assertEqual([it.result(60) for it in jobs], [True, False, True])
 
     def test_a_registry_that_is_given_to_jsonschema(self):
         with self.assertRaisesRegex(TypeError, "validator_for"):
             jsonschema.Draft202012Validator({"$ref": "#"}, registry=Registry()).is_valid(1)
+
+    def test_an_older_jsonschema(self):
+        """One before 4.18 lacks what references are resolved by."""
+        kept = jsonschema.validators._RefResolver
+        del jsonschema.validators._RefResolver
+        try:
+            with self.assertRaisesRegex(ImportError, r"jsonschema 4\.18 or later is needed .*; this is \d"):
+                validator_for({})
+        finally:
+            jsonschema.validators._RefResolver = kept
 
     def test_deep_instances(self):
         """Dynamic references at a depth at which the program keeps scopes."""
