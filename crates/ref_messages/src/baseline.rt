@@ -7,8 +7,8 @@ use serde_json::Value;
 use std::alloc::{AllocError, Global};
 use std::collections::BTreeMap;
 
-/// Findings that are known: each by its file, its rule, its pointer and the text that it is about, and not by its line, so that it stays known where lines are added
-/// above it. As a text it is a list of JSON with an object for each, one a line, in byte order.
+/// Findings that are known: each by its file, its rule, its pointer and the text that it is about, or where that is none the keyword or the member, and not by its
+/// line, so that it stays known where lines are added above it. As a text it is a list of JSON with an object for each, one a line, in byte order.
 #[derive(Drop)]
 pub struct Baseline {
     alloc: Global,
@@ -99,13 +99,11 @@ impl Baseline {
 }
 
 fn line_on(alloc: Global, file: &str, message: &Message<'_>) -> Result<String, AllocError> {
-    line_of(
-        alloc,
-        file,
-        message.code,
-        message.pointer.as_str(),
-        message.reference.unwrap_or(""),
-    )
+    let text = match message.reference {
+        Some(text) => text,
+        None => message.keyword.unwrap_or(""),
+    };
+    line_of(alloc, file, message.code, message.pointer.as_str(), text)
 }
 
 // The line of an object, where it has these texts.

@@ -37,35 +37,53 @@ fn in_small(alloc: Global, text: &str) -> Result<String, AllocError>
     trim_hashes(text).to_ascii_lowercase(alloc)
 }
 
+// The draft whose meta-schema has this URI, by its version.
+fn by_version(text: &str) -> Draft
+    ensures { result ≡ dialects.by_version text.now }
+{
+    if text == "http://json-schema.org/schema" || text == "https://json-schema.org/schema" {
+        return Draft::Unknown;
+    }
+    Draft::from_schema_uri(text)
+}
+
 // The draft that is meant by a text in small letters.
 fn meant(alloc: Global, text: &str) -> Result<Draft, AllocError>
     ensures { IfOk result (λ d. d
-        ≡ dialects.or_else (from_schema_uri text.now)
-        (dialects.or_else (from_schema_uri (text.now ++ codes "/schema"))
-        (from_schema_uri (text.now ++ codes "schema")))) }
+        ≡ dialects.or_else (dialects.by_version text.now)
+        (dialects.or_else (dialects.by_version (text.now ++ codes "/schema"))
+        (dialects.by_version (text.now ++ codes "schema")))) }
 {
-    let draft = Draft::from_schema_uri(text);
+    let draft = by_version(text);
     if draft != Draft::Unknown {
         return Ok(draft);
     }
     let longer = with_end(alloc, text, "/schema")?;
-    let draft = Draft::from_schema_uri(longer.as_str());
+    let draft = by_version(longer.as_str());
     if draft != Draft::Unknown {
         return Ok(draft);
     }
     let longer = with_end(alloc, text, "schema")?;
-    Ok(Draft::from_schema_uri(longer.as_str()))
+    Ok(by_version(longer.as_str()))
+}
+
+// Whether a text is the URI of the meta-schema of a draft, which may lack a `#` at its end.
+fn is_meta_schema(text: &str, draft: Draft) -> bool
+    ensures { result ≡ dialects.is_meta_schema text.now draft }
+{
+    let uri = meta_schema(draft);
+    text == uri || text == trim_hashes(uri)
 }
 
 /// The draft that a text under `$schema` means, where it is not the URI of that draft's meta-schema: `http` and `https`, small letters and
-/// capitals, and `schema` at the end make the difference, and a `#` at the end makes none. `None` of the URI itself, and of all else. Fails only if
-/// out of memory. Takes memory for the text, and is linear in it.
+/// capitals, `schema` at the end, and a `#` too many there make the difference. `None` of the URI itself, also without its `#`, of the URI without a
+/// version, and of all else. Fails only if out of memory. Takes memory for the text, and is linear in it.
 pub fn misspelled(alloc: Global, text: &str) -> Result<Option<Draft>, AllocError>
     ensures value { IfOk result (λ d. d ≡ dialects.misspelled text.now) }
 {
     let small = in_small(alloc, text)?;
     let draft = meant(alloc, small.as_str())?;
-    if draft == Draft::Unknown || trim_hashes(text) == trim_hashes(meta_schema(draft)) {
+    if draft == Draft::Unknown || is_meta_schema(text, draft) {
         return Ok(None);
     }
     Ok(Some(draft))

@@ -82,6 +82,11 @@ pub fn names_of_dialects()
         ≡ Some Draft201909 }
     ensures capitals { misspelled (codes "http://JSON-Schema.org/draft-06/schema")
         ≡ Some Draft6 }
+    ensures with_a_hash { misspelled (codes "https://json-schema.org/draft/2020-12/schema#")
+        ≡ Some Draft202012 }
+    ensures with_two { misspelled (codes "http://json-schema.org/draft-07/schema##") ≡ Some Draft7 }
+    ensures without_a_version { misspelled (codes "http://json-schema.org/schema#") ≡ None }
+    ensures neither_version_nor_end { misspelled (codes "https://json-schema.org") ≡ None }
     ensures another { misspelled (codes "https://example.com/schema") ≡ None }
     ensures is_meant { meant (codes "HTTP://json-schema.org/draft-07/schema#") ≡ Draft7 }
     ensures at_a_place { misspelled_at 3

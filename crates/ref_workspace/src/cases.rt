@@ -86,6 +86,7 @@ fn push_case<'d>(
             path: copy_of(alloc, finding.path.as_slice())?,
             keyword: finding.keyword,
             text: finding.text,
+            wanted: None,
             problem: Problem::OtherCase {
                 document: alike.there,
             },

@@ -1,4 +1,5 @@
 //! Findings as messages.
+use crate::components::component_named;
 use crate::documents::{meant_document, other_uri};
 use crate::finding::{Finding, Problem};
 use crate::named::Named;
@@ -7,8 +8,8 @@ use crate::rules::code_of;
 use crate::spots::{Spots, first_of, spots_of};
 use crate::suggestions::{Meant, suggestion};
 use crate::told::{
-    case_text, endless_text, no_schema_text, repeated_text, told_help, told_suggestion, told_text,
-    unused_text,
+    beside_text, case_text, endless_text, no_schema_text, plain_help, repeated_text, told_help,
+    told_suggestion, told_text, unused_text,
 };
 use crate::why::{fault_text, near_dialect, uri_text};
 use crate::workspace::Workspace;
@@ -198,6 +199,7 @@ impl<'l, 'd> Describer<'l, 'd> {
             Problem::Repeated { name, .. } => repeated_text(self.alloc, name.as_str()),
             Problem::Unused => unused_text(self.alloc, finding),
             Problem::Told { told, draft } => told_text(self.alloc, finding, *told, *draft),
+            Problem::Beside { version, .. } => beside_text(self.alloc, finding, *version),
         }
     }
 
@@ -219,10 +221,6 @@ impl<'l, 'd> Describer<'l, 'd> {
             Plain::MissingDocument { uri } => {
                 ["Document '", uri.as_str(), "' is not among the given files"].join(alloc, "")
             }
-            Plain::Unchecked { uri } if self.is_here(uri) => String::from_str(
-                alloc,
-                "Anchors of a description are looked for below identifiers alone: the fragment is not checked",
-            ),
             Plain::Unchecked { uri } => [
                 "Meta-schema '",
                 uri.as_str(),
@@ -251,23 +249,6 @@ impl<'l, 'd> Describer<'l, 'd> {
         }
     }
 
-    // Whether a document is there under a URI.
-    fn is_here(&self, uri: &Uri) -> bool {
-        for number in 0..self.workspace.len() {
-            if self.is_at(number, uri) {
-                return true;
-            }
-        }
-        false
-    }
-
-    fn is_at(&self, number: usize, uri: &Uri) -> bool {
-        match self.workspace.uri(number) {
-            Some(own) => own.as_str() == uri.as_str(),
-            None => false,
-        }
-    }
-
     fn not_json(&self, source: usize) -> Result<String, AllocError> {
         let why = match fault_of(self.workspace, source) {
             Some(fault) => fault.text.as_str(),
@@ -283,8 +264,13 @@ impl<'l, 'd> Describer<'l, 'd> {
                 None => Ok(None),
             };
         }
+        if let Problem::WrongKind { uri, wanted, .. } = &finding.problem {
+            return self.suggested_component(uri, *wanted, finding.text.unwrap_or(""));
+        }
         match finding.problem.plain() {
-            Some(Plain::LeadsNowhere { uri, error }) => self.suggestion_in(uri, error),
+            Some(Plain::LeadsNowhere { uri, error }) => {
+                self.suggestion_in(uri, finding.wanted, error)
+            }
             Some(Plain::MissingDocument { uri }) => self.suggested_document(finding, uri),
             Some(Plain::UnknownDialect { .. }) => self.suggested_dialect(finding),
             _ => Ok(None),
@@ -323,13 +309,37 @@ impl<'l, 'd> Describer<'l, 'd> {
         Ok(())
     }
 
-    fn suggestion_in(&mut self, uri: &Uri, error: &Error) -> Result<Option<Meant>, AllocError> {
+    fn suggestion_in(
+        &mut self,
+        uri: &Uri,
+        wanted: Option<Kind>,
+        error: &Error,
+    ) -> Result<Option<Meant>, AllocError> {
         self.prepare_near()?;
         let Some(resources) = either_of(&self.near, &self.resources) else {
             return Ok(None);
         };
         match resources.get(uri.as_str()) {
-            Some(resource) => suggestion(self.alloc, &mut self.suggester, resource, error),
+            Some(resource) => {
+                suggestion(self.alloc, &mut self.suggester, resource, wanted, error)
+            }
+            None => Ok(None),
+        }
+    }
+
+    // The component of the kind that is needed which has the name of the one that a reference leads to.
+    fn suggested_component(
+        &mut self,
+        uri: &Uri,
+        wanted: Kind,
+        reference: &str,
+    ) -> Result<Option<Meant>, AllocError> {
+        self.prepare_near()?;
+        let Some(resources) = either_of(&self.near, &self.resources) else {
+            return Ok(None);
+        };
+        match resources.get(uri.as_str()) {
+            Some(resource) => component_named(self.alloc, resource.root, wanted, reference),
             None => Ok(None),
         }
     }
@@ -354,7 +364,8 @@ impl<'l, 'd> Describer<'l, 'd> {
     }
 
     /// What to do about the finding that is listed at a place: where a document is missing, and another one has its name; where the file itself has
-    /// the identifier or the anchor that is missing, but where it counts for nothing; or where a draft is guessed.
+    /// the identifier or the anchor that is missing, but where it counts for nothing; where a draft is guessed; where a reference leads to what isn't needed
+    /// there, or comes back to where it began; where a definition isn't used; or where a description isn't checked.
     pub fn help(&mut self, place: usize) -> Result<Option<String>, AllocError> {
         match self.finding(place) {
             Some(finding) => self.help_on(finding),
@@ -366,6 +377,13 @@ impl<'l, 'd> Describer<'l, 'd> {
         if let Problem::Told { told, draft } = &finding.problem {
             return told_help(self.alloc, finding, *told, *draft);
         }
+        if let Some(wanted) = wanted_by(&finding.problem) {
+            let wanted = with_article(self.alloc, wanted.name())?;
+            return Ok(Some(["refer to ", wanted.as_str()].join(self.alloc, "")?));
+        }
+        if let Some(help) = plain_help(finding) {
+            return Ok(Some(String::from_str(self.alloc, help)?));
+        }
         match finding.problem.plain() {
             Some(Plain::MissingDocument { uri }) => self.help_on_document(finding.source, uri),
             Some(Plain::LeadsNowhere { uri, error }) => {
@@ -374,10 +392,6 @@ impl<'l, 'd> Describer<'l, 'd> {
             Some(Plain::GuessedDraft { draft, .. }) => {
                 let help = ["--draft ", draft.name(), ", or a $schema in the file"];
                 Ok(Some(help.join(self.alloc, "")?))
-            }
-            Some(Plain::ListOfItems) => {
-                let help = "--draft with an earlier draft, or a $schema in the file";
-                Ok(Some(String::from_str(self.alloc, help)?))
             }
             _ => Ok(None),
         }
@@ -502,6 +516,14 @@ fn order_of(
     }
     order.sort_unstable();
     Ok(order)
+}
+
+// The kind that is needed where a reference leads to what is of another kind.
+fn wanted_by(problem: &Problem<'_>) -> Option<Kind> {
+    match problem {
+        Problem::WrongKind { wanted, .. } | Problem::NoObject { wanted, .. } => Some(*wanted),
+        _ => None,
+    }
 }
 
 fn level_of(problem: &Problem<'_>) -> Level {

@@ -1,14 +1,15 @@
 //! The descriptions among the documents of a workspace: what is wrong with their references, and where these are.
+use crate::anchors::{Anchors, anchors_for};
 use crate::endless::{Link, add_links};
 use crate::finding::{Finding, Problem, push};
 use crate::leads::{NoObject, add_all_no_objects, add_no_objects};
 use crate::led::add_led_places;
 use crate::placed::Placed;
 use crate::pointer::path_to;
-use crate::ruled::{ToldAt, add_told_at};
+use crate::ruled::{ToldAt, add_beside_at, add_told_at};
 use crate::workspace::Workspace;
 use crate::world::fragment_of;
-use ref_descriptions::{Reading, Under, references, version_of};
+use ref_descriptions::{Kind, Reading, Under, references, version_of};
 use ref_findings::Problem as SchemaProblem;
 use ref_index::segments_of;
 use ref_parts::path::JsonPointerSegment;
@@ -47,8 +48,10 @@ pub(crate) struct Described {
     pub links: Option<Vec<Link>>,
     // Where it is wanted, which references of descriptions lead to what is no object.
     no_objects: Option<Vec<NoObject>>,
-    // What is told of places that references of schemas lead to.
+    // What is told of places that references of schemas lead to, and of schemas of descriptions.
     told: Vec<ToldAt>,
+    // Whether the latter is wanted.
+    tells_beside: bool,
 }
 
 /// What is wrong with a reference in the document with a number, at a path.
@@ -57,6 +60,8 @@ pub(crate) struct Fault<'d> {
     document: usize,
     path: Vec<JsonPointerSegment<'d>>,
     keyword: String,
+    // The kind of the object that the reference is to lead to.
+    wanted: Option<Kind>,
     /// What is wrong.
     pub problem: ReachProblem,
 }
@@ -169,6 +174,7 @@ impl Described {
             links: None,
             no_objects: None,
             told: Vec::new(alloc),
+            tells_beside: workspace.tells_beside(),
         };
         for number in 0..workspace.len() {
             let is_there = described.has(number);
@@ -247,6 +253,20 @@ impl Described {
         places: &[Place<'r>],
     ) -> Result<(), AllocError> {
         add_told_at(alloc, asked, numbers, places, &mut self.told)
+    }
+
+    // Adds what is told of keywords beside references of schemas of descriptions, where that is wanted, of those in documents that are asked about.
+    fn add_beside<'r>(
+        &mut self,
+        alloc: Global,
+        asked: usize,
+        numbers: &[usize],
+        places: &[Place<'r>],
+    ) -> Result<(), AllocError> {
+        if !self.tells_beside {
+            return Ok(());
+        }
+        add_beside_at(alloc, asked, numbers, places, &mut self.told)
     }
 
     /// What is told of these, which is given away.
@@ -365,14 +385,17 @@ fn faults_among<'d, 'r>(
     described.add_links(alloc, numbers, documents, reached.places.as_slice())?;
     described.add_no_objects(alloc, numbers, documents, documents.own())?;
     described.add_no_objects(alloc, numbers, documents, reached.places.as_slice())?;
-    faults_in(alloc, numbers, documents.own(), reached)
+    described.add_beside(alloc, asked, numbers, documents.own())?;
+    described.add_beside(alloc, asked, numbers, reached.places.as_slice())?;
+    faults_in(alloc, numbers, documents.own(), documents.own(), reached)
 }
 
-/// What is wrong with references, by what was reached beside own places.
+/// What is wrong with references, by what was reached beside own places, and the places that descriptions have by themselves.
 pub(crate) fn faults_in<'d, 'r>(
     alloc: Global,
     numbers: &[usize],
     own: &[Place<'r>],
+    described: &[Place<'r>],
     reached: Reached<'r>,
 ) -> Result<Vec<Fault<'d>>, AllocError> {
     let Reached {
@@ -380,12 +403,14 @@ pub(crate) fn faults_in<'d, 'r>(
         findings,
         ..
     } = reached;
+    let anchors = anchors_for(alloc, findings.as_slice(), described, places.as_slice())?;
     let mut list = Vec::new(alloc);
     for found in findings {
         if let Some(place) = place_among(&*own, places.as_slice(), found.place) {
             let number = numbers.get(place.document).copied().unwrap_or(usize::MAX);
-            let fault = fault_at(alloc, number, place, found)?;
-            push_fault(&mut list, fault)?;
+            if let Some(fault) = fault_at(alloc, number, place, &anchors, found)? {
+                push_fault(&mut list, fault)?;
+            }
         }
     }
     Ok(list)
@@ -403,27 +428,48 @@ fn place_among<'p, 'r>(
     }
 }
 
-// What is wrong with a reference of a place.
+// What is wrong with a reference of a place, where these anchors leave something wrong.
 fn fault_at<'d>(
     alloc: Global,
     document: usize,
     place: &Place<'_>,
+    anchors: &Anchors,
     found: ReachFinding<'_>,
-) -> Result<Fault<'d>, AllocError> {
+) -> Result<Option<Fault<'d>>, AllocError> {
     let ReachFinding {
         under,
         keyword,
+        text,
         problem,
         ..
     } = found;
+    let wanted = wanted_at(alloc, place, (under, keyword))?;
+    let Some(problem) = anchors.judged(alloc, problem, wanted, text)? else {
+        return Ok(None);
+    };
     let path = own_path(alloc, place, under)?;
     let keyword = String::from_str(alloc, keyword)?;
-    Ok(Fault {
+    Ok(Some(Fault {
         document,
         path,
         keyword,
+        wanted,
         problem,
-    })
+    }))
+}
+
+// The kind of the object that the reference under a key of a place is to lead to.
+fn wanted_at(
+    alloc: Global,
+    place: &Place<'_>,
+    (under, keyword): (Under, &str),
+) -> Result<Option<Kind>, AllocError> {
+    for reference in references(alloc, place.reading, place.value)? {
+        if reference.under == under && reference.keyword == keyword {
+            return Ok(Some(reference.wanted));
+        }
+    }
+    Ok(None)
 }
 
 fn push_fault<'d>(list: &mut Vec<Fault<'d>>, fault: Fault<'d>) -> Result<(), AllocError> {
@@ -481,6 +527,7 @@ fn finding_of<'d>(root: &'d Value, fault: Fault<'d>) -> Finding<'d> {
         document,
         path,
         keyword,
+        wanted,
         problem,
     } = fault;
     let (own, text) = texts_at(root, path.as_slice(), keyword.as_str());
@@ -489,6 +536,7 @@ fn finding_of<'d>(root: &'d Value, fault: Fault<'d>) -> Finding<'d> {
         path,
         keyword: own,
         text,
+        wanted,
         problem: problem_of(problem),
     }
 }

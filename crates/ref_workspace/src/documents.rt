@@ -10,7 +10,8 @@ use ref_uri::uri::resolve_against;
 use std::alloc::{AllocError, Global};
 
 /// What may be meant by the text of a reference from a document that was resolved to a URI that none has: a place of the document itself, where the `#`
-/// was forgotten; a document whose URI ends in `.json`, `.yaml` or `.yml`; one that is meant with a slash at the beginning, or without it; or one whose name is a letter or two away, or has other cases.
+/// was forgotten; a document whose URI ends in `.json`, `.yaml` or `.yml`; one that is meant without a slash at the end; one that is meant with a slash at the
+/// beginning, or without it; or one whose name is a letter or two away, or has other cases.
 pub fn meant_document(
     alloc: Global,
     suggester: &mut Suggester,
@@ -29,6 +30,10 @@ pub fn meant_document(
     if let Some((end, is_only)) = missing_end(alloc, resources, uri)? {
         let text = format!(in alloc; "{front}{end}{hash}{fragment}")?;
         return Ok(Some(Meant { text, is_only }));
+    }
+    if let Some(front) = without_end_slash(workspace, resources, source, (front, uri)) {
+        let text = format!(in alloc; "{front}{hash}{fragment}")?;
+        return Ok(Some(Meant::only(text)));
     }
     if let Some(front) = with_other_slash(alloc, workspace, resources, source, (front, uri))? {
         let text = format!(in alloc; "{front}{hash}{fragment}")?;
@@ -51,6 +56,21 @@ pub fn meant_document(
         text,
         is_only: best.is_only,
     }))
+}
+
+// The text of a reference without the slash at its end, where that is one of another document that is there.
+fn without_end_slash<'t>(
+    workspace: &Workspace,
+    resources: &Resources<'_>,
+    source: usize,
+    (front, uri): (&'t str, &str),
+) -> Option<&'t str> {
+    let (front, uri) = (front.strip_suffix('/')?, uri.strip_suffix('/')?);
+    if !front.is_empty() && resources.get(uri).is_some() && !is_uri_of(workspace, source, uri) {
+        Some(front)
+    } else {
+        None
+    }
 }
 
 // The text of a reference with a slash at its beginning, or without it, where that is one of another document that is there.
@@ -154,7 +174,8 @@ pub fn tails<'a, 'b>(uri: &'a str, other: &'b str) -> (&'a str, &'b str) {
     )
 }
 
-/// What to do where a file has the name that a missing URI ends with, and not the URI.
+/// What to do where a file has the name that a missing URI ends with, and not the URI. Nothing where its own URI has another scheme or other cases alone: then
+/// that one is meant.
 pub fn other_uri(
     alloc: Global,
     suggester: &mut Suggester,
@@ -180,12 +201,28 @@ pub fn other_uri(
             let folder = folder_of(shown);
             let folder = if folder.is_empty() { "." } else { folder };
             let (what, own) = own_uri(alloc, workspace, number)?;
+            if is_alike(own.as_str(), uri) {
+                return Ok(None);
+            }
             return Ok(Some(format!(in alloc;
                 "the file {shown} has the {what} {own}: try --base {folder_uri} or --map {folder_uri}={folder}"
             )?));
         }
     }
     Ok(None)
+}
+
+// Whether two URIs are the same but for their schemes, and small letters and capitals.
+fn is_alike(uri: &str, other: &str) -> bool {
+    after_scheme(uri).eq_ignore_ascii_case(after_scheme(other))
+}
+
+// What is after the scheme of a URI (RFC 3986, 3.1).
+fn after_scheme(uri: &str) -> &str {
+    match uri.split_once(':') {
+        Some((_, rest)) => rest,
+        None => uri,
+    }
 }
 
 // What is before the third slash of a URI: its scheme and its host.

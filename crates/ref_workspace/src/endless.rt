@@ -401,6 +401,7 @@ fn push_endless<'d>(
             path: own,
             keyword,
             text,
+            wanted: None,
             problem: Problem::Endless { around },
         },
     )

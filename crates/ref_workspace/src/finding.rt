@@ -1,7 +1,7 @@
 //! What is wrong with documents, or is to be noted.
 use crate::placed::Unplaced;
 use crate::unused::Unused;
-use ref_descriptions::Kind;
+use ref_descriptions::{Kind, Version};
 use ref_draft::Draft;
 use ref_findings::{Finding as SchemaFinding, Level, Problem as SchemaProblem};
 use ref_parts::path::JsonPointerSegment;
@@ -45,6 +45,8 @@ pub struct Finding<'d> {
     pub keyword: Option<&'d str>,
     /// The text under that keyword, which is the document's own.
     pub text: Option<&'d str>,
+    /// The kind of the object that a reference of a description is to lead to, where it leads nowhere.
+    pub wanted: Option<Kind>,
     /// What is wrong.
     pub problem: Problem<'d>,
 }
@@ -98,6 +100,13 @@ pub enum Problem<'d> {
     },
     /// A definition that no reference leads to or into, but from within definitions that are so.
     Unused,
+    /// Of a keyword beside a `$ref` of a schema, in a description of this version.
+    Beside {
+        /// What is told: that it is ignored, or not heard.
+        told: Told,
+        /// The version.
+        version: Version,
+    },
     /// Of a keyword of a schema, which is read by this draft.
     Told {
         /// What is told.
@@ -127,8 +136,13 @@ impl<'d> Problem<'d> {
             Problem::NotASchema { .. } | Problem::Endless { .. } => Level::Error,
             Problem::Repeated { .. } | Problem::OtherCase { .. } => Level::Warning,
             Problem::Unused => Level::Note,
-            Problem::Told { told, .. } => level_of(*told),
+            Problem::Told { told, .. } | Problem::Beside { told, .. } => level_of(*told),
         }
+    }
+
+    /// Whether it is listed only where its rule is set.
+    pub fn is_off(&self) -> bool {
+        matches!(self, Problem::Beside { .. })
     }
 
     /// The problem, where it isn't one that descriptions alone have.
@@ -180,6 +194,7 @@ pub(crate) fn plain<'d>(
         path,
         keyword,
         text,
+        wanted: None,
         problem: Problem::Plain(renumbered(problem, numbers)),
     }
 }

@@ -152,6 +152,7 @@ pub(crate) fn add_no_schema<'d>(
             path,
             keyword: own,
             text,
+            wanted: None,
             problem: Problem::NotASchema { is, draft },
         },
     )
@@ -253,6 +254,7 @@ fn add_no_object<'d>(
             path,
             keyword: own,
             text,
+            wanted: None,
             problem: Problem::NoObject {
                 is: one.is,
                 wanted: one.wanted,

@@ -68,7 +68,7 @@ fn missing_by(
     let numbers = numbered.numbers.as_slice();
     let schemas = schemas_among(alloc, workspace, numbers, &documents, described)?;
     let reached = reach_schemas(alloc, &documents, &schemas)?;
-    let faults = faults_in(alloc, numbers, schemas.places(), reached)?;
+    let faults = faults_in(alloc, numbers, schemas.places(), documents.own(), reached)?;
     missing_in(alloc, workspace, faults.as_slice())
 }
 
@@ -175,7 +175,7 @@ fn led_among<'d, 'r>(
     no_schemas_in(alloc, asked, numbers, documents, places, &mut no_schemas)?;
     described.add_links(alloc, numbers, documents, places)?;
     described.add_told(alloc, asked, numbers, places)?;
-    let faults = faults_in(alloc, numbers, own, reached)?;
+    let faults = faults_in(alloc, numbers, own, documents.own(), reached)?;
     let faults = each_once(alloc, faults)?;
     Ok(Led {
         faults,

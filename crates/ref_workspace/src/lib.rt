@@ -3,8 +3,10 @@
 //! a name, a URI and a text, and answers are values.
 #![tactic(auto)]
 
+mod anchors;
 mod asking;
 mod cases;
+mod components;
 mod describe;
 mod described;
 mod documents;
@@ -44,8 +46,8 @@ pub use described::{DescribedPlace, DescribedReference, Description};
 pub use edges::{Shape, graph_of};
 pub use finding::{Finding, Mark, Problem, Report};
 pub use placed::{Unplaced, lines_of};
-pub use rules::RULES;
-pub use silences::Silences;
+pub use rules::{RULES, near_rule};
+pub use silences::{Silences, UnusedSilence};
 pub use sources::Known;
 pub use summary::Summary;
 pub use unused::Unused;

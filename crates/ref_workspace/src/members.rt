@@ -399,6 +399,7 @@ fn push_repeated<'d>(
             path,
             keyword,
             text: None,
+            wanted: None,
             problem,
         },
     )

@@ -3,6 +3,7 @@ use crate::described::{Described, owned_path_to, pointer_at, texts_at};
 use crate::finding::{Finding, Problem, push};
 use crate::placed::push_below as push_values;
 use crate::workspace::{Document, Workspace};
+use ref_descriptions::{Kind, Version};
 use ref_draft::Draft;
 use ref_findings::{Finding as SchemaFinding, Problem as SchemaProblem};
 use ref_index::meanings::text_under;
@@ -307,6 +308,8 @@ pub(crate) struct ToldAt {
     keyword: &'static str,
     told: ToldProblem,
     draft: Draft,
+    // The version of the description that it is in, where it is in one.
+    version: Option<Version>,
 }
 
 /// Adds what is told of those places that references of schemas lead to which are in documents that are asked about, and which a draft reads. A `$schema` counts at
@@ -342,10 +345,63 @@ pub(crate) fn add_told_at(
                 keyword: slip.keyword,
                 told: slip.problem,
                 draft: place.reading.draft,
+                version: None,
             })?;
         }
     }
     Ok(())
+}
+
+/// Adds which keywords of Draft 4 are beside a `$ref` of those schemas of descriptions of 2.0 and 3.0 that are in documents that are asked about: these have the keywords
+/// of that draft, and what is beside a `$ref` counts for nothing there (OpenAPI 3.0, Reference Object).
+pub(crate) fn add_beside_at(
+    alloc: Global,
+    asked: usize,
+    numbers: &[usize],
+    places: &[Reached<'_>],
+    list: &mut Vec<ToldAt>,
+) -> Result<(), AllocError> {
+    for place in places {
+        let document = numbers.get(place.document).copied().unwrap_or(usize::MAX);
+        let is_schema = place.reading.kind == Kind::Schema && !place.reading.is_by_draft();
+        if document < asked && is_schema && is_suspect(place.value, Draft::Draft4, true) {
+            add_beside(alloc, document, place, list)?;
+        }
+    }
+    Ok(())
+}
+
+fn add_beside(
+    alloc: Global,
+    document: usize,
+    place: &Reached<'_>,
+    list: &mut Vec<ToldAt>,
+) -> Result<(), AllocError> {
+    let schema = Place {
+        is_root: true,
+        draft: Draft::Draft4,
+        value: place.value,
+    };
+    for slip in slips(alloc, &[schema])? {
+        if is_beside(slip.problem) {
+            list.push(ToldAt {
+                document,
+                pointer: pointer_at(alloc, place)?,
+                keyword: slip.keyword,
+                told: slip.problem,
+                draft: Draft::Draft4,
+                version: place.reading.version,
+            })?;
+        }
+    }
+    Ok(())
+}
+
+fn is_beside(told: ToldProblem) -> bool {
+    matches!(
+        told,
+        ToldProblem::IgnoredBesideRef | ToldProblem::UnheardBesideRef
+    )
 }
 
 /// Adds the findings of what is told so, each once: a place may be reached with several bases.
@@ -386,12 +442,23 @@ fn add_one_told_at<'d>(
             path,
             keyword: Some(one.keyword),
             text,
-            problem: Problem::Told {
-                told: one.told,
-                draft: one.draft,
-            },
+            wanted: None,
+            problem: problem_of(one),
         },
     )
+}
+
+fn problem_of<'d>(one: &ToldAt) -> Problem<'d> {
+    match one.version {
+        Some(version) => Problem::Beside {
+            told: one.told,
+            version,
+        },
+        None => Problem::Told {
+            told: one.told,
+            draft: one.draft,
+        },
+    }
 }
 
 // Adds what is told of a keyword.
@@ -410,6 +477,7 @@ fn push_told<'d>(
         path: path_to(alloc, spots, slip.place)?,
         keyword: Some(slip.keyword),
         text: text_under(spot.value, slip.keyword),
+        wanted: None,
         problem: Problem::Told {
             told: slip.problem,
             draft: spot.draft,

@@ -3,8 +3,12 @@ use crate::finding::Problem;
 use ref_error::Error;
 use ref_files::Format;
 use ref_findings::Problem as Plain;
-use ref_messages::Rule;
+use ref_messages::{Rule, Suggester};
 use ref_rules::Problem as Told;
+use std::alloc::{AllocError, Global};
+
+// How many steps a search among the rules may take.
+const STEPS: usize = 65_536;
 
 /// The kinds of findings, each with what it says.
 pub const RULES: &[Rule] = &[
@@ -117,10 +121,31 @@ pub const RULES: &[Rule] = &[
         text: "No reference leads to a definition or into it, but from definitions that are not used",
     },
     Rule {
+        code: "unused-silence",
+        text: "A comment that is to silence rules silences nothing, or names a rule that there is not",
+    },
+    Rule {
         code: "unchecked-reference",
         text: "A reference leads into a meta-schema that is not among the given files",
     },
 ];
+
+/// Whether there is a kind of this name.
+pub(crate) fn is_rule(name: &str) -> bool {
+    RULES.iter().any(|rule| rule.code == name)
+}
+
+/// The kind that may be meant by a name that is that of none: the first that is a letter or two away.
+pub fn near_rule(alloc: Global, name: &str) -> Result<Option<&'static str>, AllocError> {
+    let mut suggester = Suggester::new(STEPS);
+    suggester.begin();
+    for rule in RULES {
+        if suggester.distance(alloc, name, rule.code)?.is_some() {
+            return Ok(Some(rule.code));
+        }
+    }
+    Ok(None)
+}
 
 /// The kind of a problem of a document that is written so.
 pub fn code_of(problem: &Problem<'_>, format: Format) -> &'static str {
@@ -133,7 +158,7 @@ pub fn code_of(problem: &Problem<'_>, format: Format) -> &'static str {
         Problem::OtherCase { .. } => "case-of-file",
         Problem::Repeated { .. } => "repeated-member",
         Problem::Unused => "unused-definition",
-        Problem::Told { told, .. } => code_of_told(*told),
+        Problem::Told { told, .. } | Problem::Beside { told, .. } => code_of_told(*told),
     }
 }
 

@@ -2,13 +2,14 @@
 use crate::finding::Finding;
 use crate::placed::{Spot, push_spots};
 use crate::pointer::position;
+use crate::rules::is_rule;
 use crate::workspace::{Document, Workspace};
 use ref_files::Format;
 use ref_parts::path::JsonPointerSegment;
 use ref_parts::pointer_of;
 use serde_json::Value;
 use std::alloc::{AllocError, Global};
-use std::collections::BTreeSet;
+use std::collections::{BTreeMap, BTreeSet};
 
 // How a comment begins that silences rules.
 const BEGIN: &str = "patchsard: ignore ";
@@ -19,6 +20,19 @@ struct Comment<'d> {
     line: usize,
     is_alone: bool,
     text: &'d str,
+}
+
+/// A comment that silences nothing, or names a rule that there isn't.
+#[derive(Drop)]
+pub struct UnusedSilence<'d> {
+    /// The pointer of the object whose `$comment` it is (RFC 6901); empty of a comment of YAML.
+    pub pointer: String,
+    /// `$comment`; nothing of a comment of YAML.
+    pub keyword: Option<&'static str>,
+    /// What it says.
+    pub text: &'d str,
+    /// The first rule that it names and that there isn't.
+    pub unknown: Option<&'d str>,
 }
 
 /// The comments that silence rules: a `$comment` of the text `patchsard: ignore RULE, RULE: why` silences these rules at its object and below it, and in YAML a
@@ -126,23 +140,27 @@ impl<'d> Silences<'d> {
         }
     }
 
-    /// Those that silenced nothing: the number of the document, the line and the column of each, of those documents that are asked about.
-    pub fn unused(&self, asked: usize) -> Result<Vec<(usize, usize, usize)>, AllocError> {
-        let mut list = Vec::new(self.alloc);
-        for (source, document) in self.documents.iter().enumerate() {
+    /// Those that silenced nothing, and those that name a rule that there isn't, of those documents that are asked about: by the number of the document, the line and
+    /// the column of each.
+    pub fn unused(
+        &self,
+        asked: usize,
+    ) -> Result<BTreeMap<(usize, usize, usize), UnusedSilence<'d>>, AllocError> {
+        let mut list = BTreeMap::new(self.alloc);
+        let documents = self.documents;
+        for (source, document) in documents.iter().enumerate() {
             if source < asked && self.may_be_in(source, document) {
                 self.add_unused(&mut list, source, document)?;
             }
         }
-        list.sort_unstable();
         Ok(list)
     }
 
     fn add_unused(
         &self,
-        list: &mut Vec<(usize, usize, usize)>,
+        list: &mut BTreeMap<(usize, usize, usize), UnusedSilence<'d>>,
         source: usize,
-        document: &Document,
+        document: &'d Document,
     ) -> Result<(), AllocError> {
         if document.text.format == Format::Yaml {
             self.add_unused_lines(list, source, document.text.text.as_str())?;
@@ -165,45 +183,80 @@ impl<'d> Silences<'d> {
         Ok(())
     }
 
-    // Adds the comment of an object, where it has one that silences rules and silenced nothing.
+    // Adds the comment of an object, where it has one that silences rules, and silenced nothing or names a rule that there isn't.
     fn add_unused_comment(
         &self,
-        list: &mut Vec<(usize, usize, usize)>,
+        list: &mut BTreeMap<(usize, usize, usize), UnusedSilence<'d>>,
         (source, document): (usize, &Document),
-        spot: Spot<'_>,
+        spot: Spot<'d>,
     ) -> Result<(), AllocError> {
-        if !comment_of(spot.value).is_some_and(is_silence) {
+        let Some(comment) = comment_of(spot.value) else {
+            return Ok(());
+        };
+        if !is_silence(comment) {
             return Ok(());
         }
         let pointer = pointer_of(self.alloc, spot.path.as_slice())?;
-        if self.used.contains(&(source, pointer)) {
+        let unknown = unknown_in(comment);
+        if unknown.is_none() && self.is_used(source, pointer.as_str())? {
             return Ok(());
         }
         let mut path = spot.path;
         path.push(JsonPointerSegment::from("$comment"))?;
         let text = (document.text.format, document.text.text.as_str());
         let (line, column) = position(self.alloc, text, path.as_slice())?;
-        list.push((source, line, column))?;
+        let keyword = Some("$comment");
+        let unused = UnusedSilence {
+            pointer,
+            keyword,
+            text: comment,
+            unknown,
+        };
+        list.insert((source, line, column), unused)?;
         Ok(())
     }
 
     fn add_unused_lines(
         &self,
-        list: &mut Vec<(usize, usize, usize)>,
+        list: &mut BTreeMap<(usize, usize, usize), UnusedSilence<'d>>,
         source: usize,
-        text: &str,
+        text: &'d str,
     ) -> Result<(), AllocError> {
         for (index, line) in text.split('\n').enumerate() {
             let number = index.saturating_add(1);
             if let Some((before, comment)) = split_comment(line) {
+                let unknown = unknown_in(comment);
                 let key = format!(in self.alloc; "{number}")?;
-                if is_silence(comment) && !self.used.contains(&(source, key)) {
+                if unknown.is_some() || !self.is_used(source, key.as_str())? {
                     let column = before.chars().count().saturating_add(1);
-                    list.push((source, number, column))?;
+                    let unused = UnusedSilence {
+                        pointer: String::new(self.alloc),
+                        keyword: None,
+                        text: comment,
+                        unknown,
+                    };
+                    list.insert((source, number, column), unused)?;
                 }
             }
         }
         Ok(())
+    }
+
+    // Whether the comment at a pointer or a line of the document with a number silenced something.
+    fn is_used(&self, source: usize, place: &str) -> Result<bool, AllocError> {
+        let place = String::from_str(self.alloc, place)?;
+        Ok(self.used.contains(&(source, place)))
+    }
+}
+
+impl<'d> UnusedSilence<'d> {
+    /// The rules that it names.
+    pub fn rules(&self, alloc: Global) -> Result<Vec<&'d str>, AllocError> {
+        let mut rules = Vec::new(alloc);
+        for name in names_in(self.text).split(',') {
+            rules.push(name.trim())?;
+        }
+        Ok(rules)
     }
 }
 
@@ -224,14 +277,28 @@ fn is_silence(comment: &str) -> bool {
 
 // Whether a comment silences a rule.
 fn is_meant_by(comment: &str, code: &str) -> bool {
+    names_in(comment).split(',').any(|name| name.trim() == code)
+}
+
+// The names of rules in a comment that silences some, with commas between them; nothing of another one.
+fn names_in(comment: &str) -> &str {
     let Some(rest) = comment.strip_prefix(BEGIN) else {
-        return false;
+        return "";
     };
-    let names = match rest.split_once(':') {
+    match rest.split_once(':') {
         Some((names, _)) => names,
         None => rest,
-    };
-    names.split(',').any(|name| name.trim() == code)
+    }
+}
+
+// The first name of a comment that is that of no rule.
+fn unknown_in(comment: &str) -> Option<&str> {
+    for name in names_in(comment).split(',') {
+        if !is_rule(name.trim()) {
+            return Some(name.trim());
+        }
+    }
+    None
 }
 
 // How many steps of a path lead to the innermost object that silences a rule.

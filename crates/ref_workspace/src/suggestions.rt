@@ -1,5 +1,7 @@
 //! What may be meant by a pointer or an anchor that isn't there.
+use crate::components::{is_of_others, meant_component};
 use crate::resources::Resource;
+use ref_descriptions::Kind;
 use ref_error::Error;
 use ref_messages::Suggester;
 use referencing::{unescape_segment, write_escaped_str};
@@ -25,33 +27,58 @@ impl Meant {
     }
 }
 
-/// What may be meant by an unresolvable reference into a resource: a pointer with another key, one that lacks its first
-/// slash or has one too many at its end, or another anchor. A `#` is the resource as a whole.
+/// What may be meant by an unresolvable reference into a resource: a pointer to a component of the kind that is needed, where one is, or with another key,
+/// one that lacks its first slash, has one too many at its end, or has a second `#` before it, or another anchor. A `#` is the resource as a whole.
 pub fn suggestion(
     alloc: Global,
     suggester: &mut Suggester,
     resource: &Resource<'_>,
+    wanted: Option<Kind>,
     error: &Error,
 ) -> Result<Option<Meant>, AllocError> {
     suggester.begin();
     match error {
         Error::PointerToNowhere { pointer } => {
-            match without_slash(alloc, resource.root, pointer.as_str())? {
-                Some(meant) => Ok(Some(meant)),
-                None => close_pointer(alloc, suggester, resource.root, pointer.as_str()),
-            }
+            meant_pointer(alloc, suggester, resource.root, (wanted, pointer.as_str()))
         }
         Error::NoSuchAnchor { anchor } => {
             close_anchor(alloc, suggester, resource.names.as_slice(), anchor.as_str())
         }
-        Error::InvalidAnchor { anchor } => with_slash(alloc, resource.root, anchor.as_str()),
+        Error::InvalidAnchor { anchor } => as_pointer(alloc, resource.root, anchor.as_str()),
         _ => Ok(None),
     }
 }
 
-// The pointer that lacks its first slash, where a value is at it.
-fn with_slash(alloc: Global, root: &Value, text: &str) -> Result<Option<Meant>, AllocError> {
-    let meant = format!(in alloc; "/{text}")?;
+// What may be meant by a pointer that leads to no value, from a reference that is to lead to an object of this kind.
+fn meant_pointer(
+    alloc: Global,
+    suggester: &mut Suggester,
+    root: &Value,
+    (wanted, pointer): (Option<Kind>, &str),
+) -> Result<Option<Meant>, AllocError> {
+    if let Some(meant) = without_slash(alloc, root, pointer)? {
+        return Ok(Some(meant));
+    }
+    let Some(wanted) = wanted else {
+        return close_pointer(alloc, suggester, root, pointer);
+    };
+    if let Some(meant) = meant_component(alloc, suggester, root, (wanted, pointer))? {
+        return Ok(Some(meant));
+    }
+    let Some(meant) = close_pointer(alloc, suggester, root, pointer)? else {
+        return Ok(None);
+    };
+    if is_of_others(root, wanted, meant.text.as_str()) {
+        return Ok(None);
+    }
+    Ok(Some(meant))
+}
+
+// The pointer that lacks its first slash, or has another `#` before it, where a value is at it.
+fn as_pointer(alloc: Global, root: &Value, text: &str) -> Result<Option<Meant>, AllocError> {
+    let rest = text.trim_start_matches('#');
+    let slash = if rest.starts_with('/') { "" } else { "/" };
+    let meant = [slash, rest].join(alloc, "")?;
     if root.pointer(meant.as_str()).is_some() {
         Ok(Some(Meant::only(meant)))
     } else {
@@ -151,8 +178,8 @@ fn with_segment(
     Ok(text)
 }
 
-// The key that is the fewest letters away, of several the first.
-fn close_key<'v>(
+/// The key that is the fewest letters away, of several the first.
+pub(crate) fn close_key<'v>(
     alloc: Global,
     suggester: &mut Suggester,
     members: &'v Map<String, Value>,

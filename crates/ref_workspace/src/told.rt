@@ -1,6 +1,8 @@
 //! What is said of the keywords of schemas.
-use crate::finding::Finding;
+use crate::finding::{Finding, Problem as Wrong};
+use ref_descriptions::Version;
 use ref_draft::Draft;
+use ref_findings::Problem as Plain;
 use ref_parts::path::JsonPointerSegment;
 use ref_rules::{Problem, meta_schema};
 use std::alloc::{AllocError, Global};
@@ -27,6 +29,16 @@ pub(crate) fn told_text(
             misspelled_text(alloc, finding.text.unwrap_or(""), draft)
         }
     }
+}
+
+/// That a keyword counts for nothing beside a `$ref` in a description.
+pub(crate) fn beside_text(
+    alloc: Global,
+    finding: &Finding<'_>,
+    version: Version,
+) -> Result<String, AllocError> {
+    let (keyword, version) = (finding.keyword.unwrap_or(""), version.name());
+    format!(in alloc; "'{keyword}' counts for nothing beside a $ref in OpenAPI {version}")
 }
 
 // That a draft doesn't have a keyword.
@@ -66,6 +78,45 @@ pub(crate) fn told_help(
             Ok(Some(String::from_str(alloc, "put the $ref into an allOf")?))
         }
         _ => Ok(None),
+    }
+}
+
+/// What to do about a finding, where that is the same for all of its rule.
+pub(crate) fn plain_help(finding: &Finding<'_>) -> Option<&'static str> {
+    match &finding.problem {
+        Wrong::NotASchema { draft, .. } => Some(schema_help(*draft)),
+        Wrong::Endless { .. } => Some(
+            "take one of these references away, or put it under a keyword that goes into the value, as properties",
+        ),
+        Wrong::Unused => Some("remove it, or refer to it"),
+        Wrong::Beside {
+            told: Problem::IgnoredBesideRef,
+            ..
+        } => Some("put the $ref into an allOf"),
+        Wrong::Plain(Plain::NotChecked) => description_help(finding.keyword, finding.text),
+        Wrong::Plain(Plain::ListOfItems) => {
+            Some("--draft with an earlier draft, or a $schema in the file")
+        }
+        _ => None,
+    }
+}
+
+// What a reference of a schema is to lead to.
+fn schema_help(draft: Draft) -> &'static str {
+    match draft {
+        Draft::Draft4 => "refer to a schema, which is an object",
+        _ => "refer to a schema, which is an object or a boolean",
+    }
+}
+
+// What to do about a description whose references aren't checked, by the keyword at its root and its version.
+fn description_help(keyword: Option<&str>, version: Option<&str>) -> Option<&'static str> {
+    match (keyword, version) {
+        (Some("openapi" | "swagger"), Some(_)) => {
+            Some("if another version is meant, write it: 2.0, 3.0, 3.1 and 3.2 are checked")
+        }
+        (Some("openapi" | "swagger"), None) => None,
+        _ => Some("put its schemas into files of their own, which are checked as a whole"),
     }
 }
 

@@ -256,6 +256,7 @@ fn add_at<'d>(
             path,
             keyword: None,
             text: None,
+            wanted: None,
             problem: Problem::Unused,
         },
     )

@@ -54,6 +54,8 @@ pub struct Workspace {
     held: Vec<Held>,
     // What counts in place of a document that has no value.
     empty: Value,
+    // Whether it is told what is beside a reference of a description.
+    tells_beside: bool,
     ghost ordered: { (asked ≤ opened) × (opened ≤ vec_len documents) },
 }
 
@@ -72,7 +74,18 @@ impl Workspace {
             opened: 0,
             held: Vec::new(alloc),
             empty: Value::Object(Map::new(alloc)),
+            tells_beside: false,
         }
+    }
+
+    /// Sets whether it is told which keywords are beside a `$ref` of a schema in descriptions of OpenAPI 2.0 and 3.0; at first it isn't.
+    pub fn tell_beside(&mut self, is_told: bool) {
+        self.tells_beside = is_told;
+    }
+
+    /// Whether it is.
+    pub(crate) fn tells_beside(&self) -> bool {
+        self.tells_beside
     }
 
     /// Opens a document that is asked about, after the others that are. Fails only if out of memory, and then nothing is changed.
