@@ -8,6 +8,7 @@ use ref_lsp::{Desk, Ending, LeftOut, Rules, Session, Settings, serve};
 use ref_protocol::wire::Wire;
 use ref_streams::{Input, Output, Sink, Source};
 use std::alloc::{AllocError, Global};
+use std::{fs, io};
 
 /// Serves an editor on standard input and output. The status is 0 after a `shutdown`, and 1 without one.
 pub fn serve_editor(rt: &HostRuntime, given: &ArgMatches<'_>) -> Result<u8, Stop> {
@@ -108,7 +109,23 @@ fn settings_of(
         left_out: left_out(alloc, given, configured)?,
         has_ignore: configuration.has_gitignore && !given.get_flag("no-ignore"),
         has_yaml: configuration.has_yaml || given.get_flag("yaml"),
+        configuration: configuration_at(rt, given)?,
     })
+}
+
+// The absolute path of the configuration that the command line names, where it names one.
+fn configuration_at(rt: &HostRuntime, given: &ArgMatches<'_>) -> Result<Option<String>, Stop> {
+    let Some(path) = given.get_str("config") else {
+        return Ok(None);
+    };
+    match fs::canonicalize(rt, path) {
+        Ok(path) => Ok(Some(path.into_string())),
+        Err(error) if error.kind() == io::ErrorKind::OutOfMemory => Err(Stop::Memory),
+        Err(error) => {
+            drop(error);
+            Ok(None)
+        }
+    }
 }
 
 // What is left out: what the command line says, from the working folder on, and what the configuration says, from its folder on.

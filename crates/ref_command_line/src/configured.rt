@@ -1,4 +1,5 @@
 //! The configuration file that counts.
+use crate::checked::check;
 use crate::said::say_of;
 use crate::stop::Stop;
 use clap::ArgMatches;
@@ -121,7 +122,11 @@ fn read(rt: &HostRuntime, path: String) -> Result<Configured, Stop> {
         }
     };
     match Configuration::parse(rt.alloc(), text.as_str()) {
-        Ok(configuration) => Ok(placed(rt.alloc(), path, configuration)?),
+        Ok(configuration) => {
+            let configured = placed(rt.alloc(), path, configuration)?;
+            check(rt, text.as_str(), &configured)?;
+            Ok(configured)
+        }
         Err(Refusal::Memory) => Err(Stop::Memory),
         Err(Refusal::At { line, column, text }) => {
             let _ = eprintln!(rt;

@@ -2,6 +2,7 @@
 //! standard error, how far a command is, and why the program stops.
 #![tactic(auto)]
 
+mod checked;
 pub mod command;
 mod configured;
 pub mod console;

@@ -81,25 +81,15 @@ impl<'d> Known<'d> {
         finding: &Finding<'_>,
         message: &Message<'_>,
     ) -> Result<bool, AllocError> {
-        let level = listing.levels.level(path, message.code, message.level)?;
+        let level = listing.level_of(path, finding, message)?;
         if level.is_none() || self.silences.has(finding, message.line, message.code)? {
             return Ok(false);
         }
         Ok(!self.has(path, message)?)
     }
 
-    /// Writes those that were found, where that is asked for, and says what silenced nothing and is known no more.
-    pub fn finish(
-        &self,
-        rt: &HostRuntime,
-        given: &ArgMatches<'_>,
-        opened: &Opened<'_>,
-    ) -> Result<(), Stop> {
-        for (source, line, column) in &self.silences.unused(opened.workspace.asked())? {
-            let name = opened.workspace.name(*source);
-            let place = format!(in rt.alloc(); "{name}:{line}:{column}")?;
-            say_of(rt, place.as_str(), "this comment silences nothing here");
-        }
+    /// Writes those that were found, where that is asked for, and says what is known no more.
+    pub fn finish(&self, rt: &HostRuntime, given: &ArgMatches<'_>) -> Result<(), Stop> {
         let path = given.get_str("baseline").unwrap_or("");
         let left = self.known.left();
         if left > 0 {

@@ -22,4 +22,5 @@ mod printed;
 mod refusals;
 pub mod resolve;
 mod shown;
+mod unused_silences;
 mod watch;

@@ -6,6 +6,7 @@ use crate::listed::{Form, Listing, Statistics};
 use crate::message::message_at;
 use crate::opened::{Opened, open_given};
 use crate::printed::print_configured;
+use crate::unused_silences::{is_told, silence_message};
 use clap::ArgMatches;
 use ref_command_line::{Configured, Console, Stop, say};
 use ref_findings::Problem;
@@ -13,7 +14,7 @@ use ref_messages::{
     Level, Message, push_annotation, push_full, push_gitlab, push_junit, push_line, push_sarif,
     push_text,
 };
-use ref_workspace::{Describer, Document, Finding, RULES};
+use ref_workspace::{Describer, Document, Finding, RULES, UnusedSilence};
 use std::alloc::{AllocError, Global};
 use std::io;
 use std::time::Instant;
@@ -54,6 +55,7 @@ pub fn lint<'a>(
         return Err(Stop::Reported);
     }
     let mut opened = open_given(rt, given, configured)?;
+    opened.workspace.tell_beside(listing.tells_beside());
     let mut fixed: usize = 0;
     if given.get_flag("fix") {
         fixed = make_fixes(rt, console, given, &mut listing, &mut opened)?;
@@ -210,18 +212,18 @@ fn list_all(
     if listing.has_statistics {
         tally.statistics.say(rt);
     }
-    tally.known.finish(rt, given, opened)?;
+    tally.known.finish(rt, given)?;
     Ok(tally.finished())
 }
 
 // Prints the messages on findings, and counts them.
-fn print(
+fn print<'d>(
     rt: &HostRuntime,
-    opened: &Opened<'_>,
+    opened: &'d Opened<'_>,
     console: &mut Console<'_>,
     listing: &mut Listing,
-    describer: &mut Describer<'_, '_>,
-    tally: &mut Tally<'_>,
+    describer: &mut Describer<'_, 'd>,
+    tally: &mut Tally<'d>,
 ) -> Result<(), Stop> {
     match listing.form {
         Form::Sarif | Form::GitLab | Form::JUnit => {
@@ -264,13 +266,13 @@ fn counted<'m>(
     }
 }
 
-fn print_each(
+fn print_each<'d>(
     rt: &HostRuntime,
-    opened: &Opened<'_>,
+    opened: &'d Opened<'_>,
     console: &mut Console<'_>,
     listing: &mut Listing,
-    describer: &mut Describer<'_, '_>,
-    tally: &mut Tally<'_>,
+    describer: &mut Describer<'_, 'd>,
+    tally: &mut Tally<'d>,
 ) -> Result<(), Stop> {
     for place in 0..describer.len() {
         if let Some(message) = counted(rt, opened, listing, describer, place, tally)? {
@@ -279,22 +281,63 @@ fn print_each(
             pushed?;
         }
     }
+    let unused = tally.known.silences.unused(opened.workspace.asked())?;
+    for (place, silence) in &unused {
+        let counted = silence_counted(rt.alloc(), opened, listing, *place, silence, tally)?;
+        if let Some(message) = counted {
+            let pushed = push_message(rt.alloc(), console, listing, &message);
+            drop(message);
+            pushed?;
+        }
+    }
     Ok(())
 }
 
+// The message on a comment that silences nothing, where it is listed, with the level that its rule is set to; and counts it.
+fn silence_counted<'m>(
+    alloc: Global,
+    opened: &'m Opened<'_>,
+    listing: &mut Listing,
+    place: (usize, usize, usize),
+    silence: &UnusedSilence<'m>,
+    tally: &mut Tally<'_>,
+) -> Result<Option<Message<'m>>, AllocError> {
+    let mut message = silence_message(alloc, opened, place, silence)?;
+    match tally.level_of_silence(alloc, opened, listing, (place.0, silence), &message) {
+        Ok(Some(level)) if listing.is_printed(level) => {
+            message.level = level;
+            Ok(Some(message))
+        }
+        Ok(_) => {
+            drop(message);
+            Ok(None)
+        }
+        Err(error) => {
+            drop(message);
+            Err(error)
+        }
+    }
+}
+
 // Prints all as one log or report.
-fn print_whole(
+fn print_whole<'d>(
     rt: &HostRuntime,
-    opened: &Opened<'_>,
+    opened: &'d Opened<'_>,
     console: &mut Console<'_>,
     listing: &mut Listing,
-    describer: &mut Describer<'_, '_>,
-    tally: &mut Tally<'_>,
+    describer: &mut Describer<'_, 'd>,
+    tally: &mut Tally<'d>,
 ) -> Result<(), AllocError> {
     let alloc = rt.alloc();
     let mut messages = Vec::new(alloc);
     for place in 0..describer.len() {
         if let Some(message) = counted(rt, opened, listing, describer, place, tally)? {
+            keep(&mut messages, message)?;
+        }
+    }
+    let unused = tally.known.silences.unused(opened.workspace.asked())?;
+    for (place, silence) in &unused {
+        if let Some(message) = silence_counted(alloc, opened, listing, *place, silence, tally)? {
             keep(&mut messages, message)?;
         }
     }
@@ -370,7 +413,7 @@ impl Tally<'_> {
             Some(path) => path.as_str(),
             None => "",
         };
-        let Some(level) = listing.levels.level(path, message.code, message.level)? else {
+        let Some(level) = listing.level_of(path, finding, message)? else {
             return Ok(None);
         };
         if self
@@ -382,6 +425,30 @@ impl Tally<'_> {
             return Ok(None);
         }
         if self.known.has(path, message)? {
+            return Ok(None);
+        }
+        self.count.add(level);
+        self.statistics.add(message.code)?;
+        Ok(Some(level))
+    }
+
+    // The level of a comment that silences nothing, in the document with a number, where it is listed, with a message on it; and counts it.
+    fn level_of_silence(
+        &mut self,
+        alloc: Global,
+        opened: &Opened<'_>,
+        listing: &mut Listing,
+        (source, silence): (usize, &UnusedSilence<'_>),
+        message: &Message<'_>,
+    ) -> Result<Option<Level>, AllocError> {
+        let path = match opened.paths.get(source) {
+            Some(path) => path.as_str(),
+            None => "",
+        };
+        let Some(level) = listing.levels.level(path, message.code, message.level)? else {
+            return Ok(None);
+        };
+        if !is_told(alloc, listing, path, silence)? || self.known.has(path, message)? {
             return Ok(None);
         }
         self.count.add(level);

@@ -2,8 +2,8 @@
 use clap::ArgMatches;
 use ref_command_line::{Configured, Stop};
 use ref_levels::{Levels, is_listed, least_of};
-use ref_messages::{Color, Level, Plain};
-use ref_workspace::RULES;
+use ref_messages::{Color, Level, Message, Plain};
+use ref_workspace::{Finding, RULES};
 use std::alloc::{AllocError, Global};
 use std::collections::BTreeMap;
 use std::env;
@@ -76,6 +76,24 @@ impl Listing {
     /// Whether notes on references that weren't checked are listed: they are asked for, or their rule is set.
     pub fn has_unchecked(&self) -> bool {
         self.is_verbose || self.levels.has("unchecked-reference")
+    }
+
+    /// The level of a finding with a message on it, in the file at an absolute path, where its rule isn't off.
+    pub fn level_of(
+        &mut self,
+        path: &str,
+        finding: &Finding<'_>,
+        message: &Message<'_>,
+    ) -> Result<Option<Level>, AllocError> {
+        if finding.problem.is_off() {
+            return self.levels.level_set(path, message.code);
+        }
+        self.levels.level(path, message.code, message.level)
+    }
+
+    /// Whether it is told what is beside references of descriptions: one of its rules is set.
+    pub fn tells_beside(&self) -> bool {
+        self.levels.has("ignored-beside-ref") || self.levels.has("annotation-beside-ref")
     }
 
     /// Whether a finding of a level is printed.

@@ -6,8 +6,8 @@ use ref_command_line::{Configured, Console, Reading, Stop};
 use ref_messages::{Plain, push_quoted};
 use std::alloc::{AllocError, Global};
 
-/// Prints what a configuration and a command line ask for together, as a configuration whose paths are from the working folder on. Overrides are left out: they
-/// are as the file has them. The status is 0.
+/// Prints what a configuration and a command line ask for together, as a configuration whose paths are from the working folder on; but the file's own paths and
+/// patterns under `exclude` and of overrides are from its folder on, which a comment says where it is another one. The status is 0.
 pub fn print_configured<'a>(
     rt: &HostRuntime,
     console: &mut Console<'_>,
@@ -18,7 +18,7 @@ pub fn print_configured<'a>(
     let reading = reading_of(rt, given, configured)?;
     let out = &mut console.out;
     match &configured.name {
-        Some(name) => write!(out, "# {}\n", Plain(name.as_str()))?,
+        Some(name) => push_name(out, name.as_str(), configured.folder.as_str())?,
         None => out.push_str("# no patchsard.toml in this folder or above it\n")?,
     }
     push_reading(rt.alloc(), out, &reading)?;
@@ -27,8 +27,21 @@ pub fn print_configured<'a>(
         write!(out, "max-warnings = {most}\n")?;
     }
     push_maps(rt.alloc(), out, reading.maps.as_slice())?;
-    listing.levels.push(out)?;
+    listing.levels.push(rt.alloc(), out)?;
     Ok(0)
+}
+
+// Adds the name of the file, and from which folder its patterns are, where that isn't the working folder.
+fn push_name(out: &mut String, name: &str, folder: &str) -> Result<(), AllocError> {
+    write!(out, "# {}\n", Plain(name))?;
+    if folder.is_empty() {
+        return Ok(());
+    }
+    write!(
+        out,
+        "# what it has under exclude and in overrides is from {} on\n",
+        Plain(folder)
+    )
 }
 
 fn push_reading(alloc: Global, out: &mut String, reading: &Reading<'_>) -> Result<(), AllocError> {

@@ -12,8 +12,8 @@ use referencing::Resolver;
 use serde_json::Value;
 use std::alloc::{AllocError, Global};
 
-/// Adds the value that was found, and where it is: its file, line, column and pointer, its draft, its base URI and
-/// the dynamic scope.
+/// Adds the value that was found, and where it is: its file, line, column and pointer, what it is in a description and by which version, its draft
+/// where a draft reads it, its base URI and the dynamic scope.
 pub fn push_found(
     alloc: Global,
     out: &mut String,
@@ -25,13 +25,16 @@ pub fn push_found(
     let own = own_value(alloc, workspace.value(number), found.pointer.as_str())?;
     push_value(alloc, out, own.unwrap_or(found.value))?;
     push_line(alloc, out, workspace, number, found.pointer.as_str())?;
-    push_kind(alloc, out, workspace, number, found.pointer.as_str())?;
-    push_scope(out, found.draft, &found.resolver)?;
+    let described = described_at(alloc, workspace, number, found.pointer.as_str())?;
+    if let Some(Described { kind, version, .. }) = described {
+        write!(out, "kind {kind} {version}\n")?;
+    }
+    push_scope(out, draft_by(described, found.draft), &found.resolver)?;
     Ok(())
 }
 
-/// Adds the same as an object on a line: `file`, `line`, `column`, `pointer`, `kind` and `version` in a description, `draft`, `base`, `scope`, inner to
-/// outer, and `value`.
+/// Adds the same as an object on a line: `file`, `line`, `column`, `pointer`, `kind` and `version` in a description, `draft` where a draft reads it, `base`,
+/// `scope`, inner to outer, and `value`.
 pub fn push_found_object(
     alloc: Global,
     out: &mut String,
@@ -43,11 +46,14 @@ pub fn push_found_object(
     let pointer = found.pointer.as_str();
     let at = place_in(alloc, workspace.documents().get(number), pointer)?;
     push_site(alloc, out, workspace.name(number), at, pointer)?;
-    if let Some((kind, version)) = kind_at(alloc, workspace, number, pointer)? {
+    let described = described_at(alloc, workspace, number, pointer)?;
+    if let Some(Described { kind, version, .. }) = described {
         push_member(alloc, out, ",\"kind\":", kind)?;
         push_member(alloc, out, ",\"version\":", version)?;
     }
-    push_member(alloc, out, ",\"draft\":", found.draft.name())?;
+    if let Some(draft) = draft_by(described, found.draft) {
+        push_member(alloc, out, ",\"draft\":", draft.name())?;
+    }
     push_member(alloc, out, ",\"base\":", found.resolver.base_uri().as_str())?;
     push_scope_list(alloc, out, &found.resolver)?;
     let own = own_value(alloc, workspace.value(number), pointer)?;
@@ -95,42 +101,54 @@ fn push_value(alloc: Global, out: &mut String, value: &Value) -> Result<(), Stop
     Ok(())
 }
 
-// Adds what an object of a description is, by which version.
-fn push_kind(
-    alloc: Global,
-    out: &mut String,
-    workspace: &Workspace,
-    number: usize,
-    pointer: &str,
-) -> Result<(), AllocError> {
-    match kind_at(alloc, workspace, number, pointer)? {
-        Some((kind, version)) => write!(out, "kind {kind} {version}\n"),
-        None => Ok(()),
-    }
+// What an object of a description is, by which version, and whether a draft reads it: a schema from 3.1 on.
+#[derive(Clone, Copy, Drop)]
+struct Described {
+    kind: &'static str,
+    version: &'static str,
+    is_by_draft: bool,
 }
 
-// What an object of a description is, and by which version.
-fn kind_at(
+// The object of a description that is at a pointer of the document with a number.
+fn described_at(
     alloc: Global,
     workspace: &Workspace,
     number: usize,
     pointer: &str,
-) -> Result<Option<(&'static str, &'static str)>, AllocError> {
+) -> Result<Option<Described>, AllocError> {
     let description = workspace.description(alloc, false)?;
     for place in &description.places {
         let here = pointer_of(alloc, place.path.as_slice())?;
         if place.document == number && here.as_str() == pointer {
             if let Some(version) = place.reading.version {
-                return Ok(Some((place.reading.kind.name(), version_name(version))));
+                return Ok(Some(Described {
+                    kind: place.reading.kind.name(),
+                    version: version_name(version),
+                    is_by_draft: place.reading.is_by_draft(),
+                }));
             }
         }
     }
     Ok(None)
 }
 
-fn push_scope(out: &mut String, draft: Draft, resolver: &Resolver<'_>) -> Result<(), AllocError> {
-    let (name, base) = (draft.name(), resolver.base_uri());
-    write!(out, "draft {name}\nbase {}\nscope", base.as_str())?;
+// The draft of what was found, where a draft reads it.
+fn draft_by(described: Option<Described>, draft: Draft) -> Option<Draft> {
+    match described {
+        Some(described) if !described.is_by_draft => None,
+        _ => Some(draft),
+    }
+}
+
+fn push_scope(
+    out: &mut String,
+    draft: Option<Draft>,
+    resolver: &Resolver<'_>,
+) -> Result<(), AllocError> {
+    if let Some(draft) = draft {
+        write!(out, "draft {}\n", draft.name())?;
+    }
+    write!(out, "base {}\nscope", resolver.base_uri().as_str())?;
     for uri in resolver.dynamic_scope().iter() {
         write!(out, " {}", uri.as_str())?;
     }

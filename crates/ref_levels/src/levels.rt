@@ -4,9 +4,9 @@ use ref_command_line::options::list_of;
 use ref_command_line::{Configured, Stop, say_failures};
 use ref_configuration::{Level as Set, place_of};
 use ref_files::{Exclusion, Exclusions, Failures};
-use ref_messages::{Chosen, Level, Plain, Suggester, level_in};
-use ref_workspace::RULES;
-use std::alloc::AllocError;
+use ref_messages::{Chosen, Level, Plain, level_in, push_quoted};
+use ref_workspace::{RULES, near_rule};
+use std::alloc::{AllocError, Global};
 use std::{fs, io};
 
 /// The levels that rules are set to: by the configuration, then by its overrides for some files, and then by the command line.
@@ -20,6 +20,8 @@ pub struct Levels {
 // Levels of rules in some files.
 #[derive(Drop)]
 struct FileLevels {
+    // The paths and patterns as the configuration has them.
+    texts: Vec<String>,
     files: Exclusions,
     choices: Vec<Chosen<'static>>,
 }
@@ -38,7 +40,13 @@ impl Levels {
             let files = files_of(rt, configured, one.files.as_slice())?;
             let rules = one.rules.as_slice();
             let choices = chosen_of(rt, configured, &["override", "rules"], rules)?;
-            push_levels(&mut overrides, FileLevels { files, choices })?;
+            let texts = copy_of(rt.alloc(), one.files.as_slice())?;
+            let levels = FileLevels {
+                texts,
+                files,
+                choices,
+            };
+            push_levels(&mut overrides, levels)?;
         }
         let last = choices_of(rt, given)?;
         Ok(Levels {
@@ -55,7 +63,21 @@ impl Levels {
         code: &str,
         own: Level,
     ) -> Result<Option<Level>, AllocError> {
-        let mut level = level_in(self.first.as_slice(), code, Some(own));
+        self.level_from(path, code, Some(own))
+    }
+
+    /// The level of a finding that is listed only where its rule is set for the file.
+    pub fn level_set(&mut self, path: &str, code: &str) -> Result<Option<Level>, AllocError> {
+        self.level_from(path, code, None)
+    }
+
+    fn level_from(
+        &mut self,
+        path: &str,
+        code: &str,
+        own: Option<Level>,
+    ) -> Result<Option<Level>, AllocError> {
+        let mut level = level_in(self.first.as_slice(), code, own);
         for one in &mut self.overrides {
             if one.files.has(path)? {
                 level = level_in(one.choices.as_slice(), code, level);
@@ -74,22 +96,63 @@ impl Levels {
                 .any(|one| has(one.choices.as_slice(), code))
     }
 
-    /// Adds what is set as parts of a configuration, without overrides: a rule that they alone set is not there.
-    pub fn push(&self, out: &mut String) -> Result<(), AllocError> {
+    /// Adds what is set as parts of a configuration: the rules, and the overrides for some files, whose paths are from the folder of the configuration on, without the
+    /// rules that the command line sets.
+    pub fn push(&self, alloc: Global, out: &mut String) -> Result<(), AllocError> {
         out.push_str("[rules]\n")?;
         for rule in RULES {
-            if has(self.first.as_slice(), rule.code) || has(self.last.as_slice(), rule.code) {
-                let level = level_in(self.first.as_slice(), rule.code, None);
-                let level = level_in(self.last.as_slice(), rule.code, level);
-                let name = match level {
-                    Some(level) => level.name(),
-                    None => "off",
-                };
-                write!(out, "{} = \"{name}\"\n", rule.code)?;
+            let code = rule.code;
+            if has(self.first.as_slice(), code) || has(self.last.as_slice(), code) {
+                let level = level_in(self.first.as_slice(), code, None);
+                push_rule(out, code, level_in(self.last.as_slice(), code, level))?;
+            }
+        }
+        for one in &self.overrides {
+            one.push(alloc, out, self.last.as_slice())?;
+        }
+        Ok(())
+    }
+}
+
+impl FileLevels {
+    // Adds them as a part of a configuration, but for rules that count elsewhere.
+    fn push(
+        &self,
+        alloc: Global,
+        out: &mut String,
+        elsewhere: &[Chosen<'_>],
+    ) -> Result<(), AllocError> {
+        out.push_str("\n[[override]]\nfiles = [")?;
+        for (number, text) in self.texts.iter().enumerate() {
+            out.push_str(if number == 0 { "" } else { ", " })?;
+            push_quoted(alloc, out, text.as_str())?;
+        }
+        out.push_str("]\n[override.rules]\n")?;
+        for rule in RULES {
+            if has(self.choices.as_slice(), rule.code) && !has(elsewhere, rule.code) {
+                let level = level_in(self.choices.as_slice(), rule.code, None);
+                push_rule(out, rule.code, level)?;
             }
         }
         Ok(())
     }
+}
+
+// Adds a rule with its level; nothing is off.
+fn push_rule(out: &mut String, code: &str, level: Option<Level>) -> Result<(), AllocError> {
+    let name = match level {
+        Some(level) => level.name(),
+        None => "off",
+    };
+    write!(out, "{code} = \"{name}\"\n")
+}
+
+fn copy_of(alloc: Global, texts: &[String]) -> Result<Vec<String>, AllocError> {
+    let mut copy = Vec::with_capacity(alloc, texts.len())?;
+    for text in texts {
+        copy.push(text.clone()?)?;
+    }
+    Ok(copy)
 }
 
 fn push_levels(list: &mut Vec<FileLevels>, levels: FileLevels) -> Result<(), AllocError> {
@@ -234,13 +297,9 @@ fn say_unknown_in(
 
 // Says which rule may be meant by a name, or else which there are.
 fn say_rules(rt: &HostRuntime, code: &str) -> Result<(), AllocError> {
-    let mut suggester = Suggester::new(65_536);
-    suggester.begin();
-    for rule in RULES {
-        if suggester.distance(rt.alloc(), code, rule.code)?.is_some() {
-            let _ = eprintln!(rt; "    did you mean '{}'?", rule.code);
-            return Ok(());
-        }
+    if let Some(near) = near_rule(rt.alloc(), code)? {
+        let _ = eprintln!(rt; "    did you mean '{near}'?");
+        return Ok(());
     }
     let _ = eprintln!(rt; "    the rules are");
     for rule in RULES {
