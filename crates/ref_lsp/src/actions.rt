@@ -1,4 +1,8 @@
 //! What mends something.
+ghost use Rattle.std.specs.Prelude.{◌≡◌};
+ghost use Rattle.serde_json.specs.View.{items_view, view};
+ghost use Rattle.ref_lsp.specs.Ranges as spec;
+
 use crate::desk::Desk;
 use crate::judged::Fix;
 use crate::shown::Told;
@@ -30,27 +34,70 @@ pub fn actions(desk: &Desk<'_>, told: &Told, params: &Value) -> Result<String, R
     Ok(out)
 }
 
-// Whether changes that mend are among the kinds that are asked for.
-fn takes_fixes(params: &Value) -> bool {
+// Whether changes that mend are among the kinds that are asked for; they are where none are named.
+fn takes_fixes(params: &Value) -> bool
+    ensures { result ≡ spec.takes_fixes (view params.now) }
+{
     match params.pointer("/context/only").and_then(Value::as_array) {
-        Some(kinds) => kinds
-            .iter()
-            .any(|kind| matches!(kind.as_str(), Some("" | "quickfix"))),
+        Some(kinds) => has_fixes(kinds.as_slice()),
         None => true,
     }
 }
 
-fn range_at(params: &Value) -> Option<Range> {
+// Whether changes that mend are among kinds.
+fn has_fixes(kinds: &[Value]) -> bool
+    ensures { result ≡ spec.has_fixes (items_view kinds.now) }
+{
+    let mut rest = kinds;
+    'kinds: while let [kind, more @ ..] = rest {
+        if is_of_fixes(kind) {
+            return true;
+        }
+        rest = more;
+    }
+    false
+}
+
+// Whether changes that mend are of a kind.
+fn is_of_fixes(kind: &Value) -> bool
+    ensures { result ≡ spec.is_of_fixes (view kind.now) }
+{
+    match kind.as_str() {
+        Some(name) => name.is_empty() || name == "quickfix",
+        None => false,
+    }
+}
+
+// The range of a request, where it has one.
+fn range_at(params: &Value) -> Option<Range>
+    ensures { result ≡ spec.range_at (view params.now) }
+{
     let range = params.get("range")?;
     Some((place_at(range.get("start")?)?, place_at(range.get("end")?)?))
 }
 
-fn place_at(place: &Value) -> Option<Place> {
+fn place_at(place: &Value) -> Option<Place>
+    ensures { result ≡ spec.place_at (view place.now) }
+{
     Some((number_at(place, "/line")?, number_at(place, "/character")?))
 }
 
-fn touches((start, end): Range, (from, to): Range) -> bool {
-    start <= to && from <= end
+// Whether two ranges have a place in common, which may be where one ends and the other begins.
+fn touches(one: Range, other: Range) -> bool
+    ensures { result ≡ spec.touches one other }
+{
+    let (start, end) = one;
+    let (from, to) = other;
+    is_at_most(start, to) && is_at_most(from, end)
+}
+
+// Whether a place is another one, or before it.
+fn is_at_most(place: Place, other: Place) -> bool
+    ensures { result ≡ spec.is_at_most place other }
+{
+    let (line, units) = place;
+    let (other_line, other_units) = other;
+    line < other_line || line == other_line && units <= other_units
 }
 
 fn push_action(alloc: Global, out: &mut String, fix: &Fix) -> Result<(), AllocError> {

@@ -1,8 +1,13 @@
 //! Which document and which place of it a request is about.
+ghost use Rattle.std.specs.Prelude.{◌≡◌, option_map};
+ghost use Rattle.ref_lsp.specs.Asking as spec;
+ghost use Rattle.ref_lsp.specs.Keys as keys;
+
 use crate::desk::Desk;
 use crate::judged::range_of;
+use crate::keys::{is_key, is_mapped, key_before};
 use crate::texts::offset_in;
-use ref_files::{DocumentText, Format};
+use ref_files::{DocumentText, Format, file_uri};
 use ref_fixes::as_fragment;
 use ref_outline::Outline;
 use ref_outline::spans::{decoded, part_in, pointer_of_steps};
@@ -64,11 +69,89 @@ pub fn asked_place(desk: &Desk<'_>, params: &Value) -> Result<Option<Asked>, Ref
     }))
 }
 
+/// The place of the text that is being written where a request is about: that of a string that isn't closed, or of one that comes after a
+/// colon of YAML and blanks; else the place itself.
+pub fn written_place(desk: &Desk<'_>, params: &Value) -> Result<Option<Asked>, Refusal> {
+    let Some(asked) = asked_place(desk, params)? else {
+        return Ok(None);
+    };
+    let alloc = desk.alloc();
+    let (number, offset) = (asked.number, asked.offset);
+    let (format, text) = desk.text_of(number);
+    let is_sound = desk.is_sound(number);
+    let part = if !is_sound && asked.part.is_none() {
+        unclosed(alloc, format, text, offset)?
+    } else if is_sound && format == Format::Yaml {
+        unwritten(alloc, text, offset)?
+    } else {
+        None
+    };
+    let Some(part) = part else {
+        return Ok(Some(asked));
+    };
+    let pointer = pointer_of_steps(alloc, part.path.as_slice())?;
+    Ok(Some(Asked {
+        number,
+        offset,
+        part: Some(part),
+        pointer,
+    }))
+}
+
+// The value that isn't written after a colon of YAML and blanks, at an offset that comes after these.
+fn unwritten(alloc: Global, text: &str, offset: usize) -> Result<Option<Part>, AllocError> {
+    let front = text.get(..offset).unwrap_or("");
+    let front = front.trim_end_matches([' ', '\t']);
+    if !front.ends_with(':') {
+        return Ok(None);
+    }
+    let Some(part) = part_in(alloc, Format::Yaml, text, front.len())? else {
+        return Ok(None);
+    };
+    let mut part = part;
+    if part.start != part.end {
+        return Ok(None);
+    }
+    part.start = offset;
+    part.end = offset;
+    Ok(Some(part))
+}
+
+// What ends what is written of a string that isn't closed.
+const ENDS: [char; 9] = [' ', '\t', '\r', '\n', '"', '\'', ',', '}', ']'];
+
+// The string around an offset that isn't closed: the one that is there once a quote is after what is written.
+fn unclosed(
+    alloc: Global,
+    format: Format,
+    text: &str,
+    offset: usize,
+) -> Result<Option<Part>, AllocError> {
+    let rest = text.get(offset..).unwrap_or("");
+    let length = rest.find(ENDS).unwrap_or(rest.len());
+    let end = offset.saturating_add(length);
+    for quote in ['"', '\''] {
+        let mut closed = String::from_str(alloc, text.get(..end).unwrap_or(""))?;
+        closed.push(quote)?;
+        closed.push_str(text.get(end..).unwrap_or(""))?;
+        if let Some(part) = part_in(alloc, format, closed.as_str(), offset)? {
+            let is_closed = part.end == end.saturating_add(1);
+            let token = text.get(part.start..offset).unwrap_or("");
+            if is_closed && token.starts_with(quote) {
+                let mut part = part;
+                part.end = end;
+                return Ok(Some(part));
+            }
+        }
+    }
+    Ok(None)
+}
+
 /// What is written at the place that a request is about, as a whole and up to the place: nothing where it is about none.
 pub fn texts_at(desk: &Desk<'_>, params: &Value) -> Result<Vec<String>, AllocError> {
     let alloc = desk.alloc();
     let mut texts = Vec::new(alloc);
-    let Ok(Some(asked)) = asked_place(desk, params) else {
+    let Ok(Some(asked)) = written_place(desk, params) else {
         return Ok(texts);
     };
     if let Some(text) = asked.text(desk)? {
@@ -90,28 +173,28 @@ impl Asked {
         before.trim_start_matches('"').trim_start_matches('\'')
     }
 
-    // The key of the value.
-    fn key(&self) -> Option<&str> {
-        match self.part.as_ref()?.path.last()? {
-            Step::Member(key) => Some(key.as_str()),
-            Step::Item(_) => None,
+    /// The steps to the value; none where there is none.
+    pub fn path(&self) -> &[Step]
+        ensures value { result.now ≡ spec.path_of self.now }
+    {
+        match &self.part {
+            Some(part) => part.path.as_slice(),
+            None => &[],
         }
     }
 
+    /// The key of the value.
+    pub fn key(&self) -> Option<&str>
+        ensures value { option_map (λ key. key.now) result ≡ spec.key_of self.now }
+    {
+        key_before(self.path(), 0)
+    }
+
     /// Whether the value is in the mapping of a discriminator.
-    pub fn is_mapped(&self) -> bool {
-        let Some(part) = &self.part else {
-            return false;
-        };
-        match part.path.as_slice() {
-            [
-                ..,
-                Step::Member(outer),
-                Step::Member(inner),
-                Step::Member(_),
-            ] => { outer.as_str() == "discriminator" && inner.as_str() == "mapping" }
-            _ => false,
-        }
+    pub fn is_mapped(&self) -> bool
+        ensures value { result ≡ keys.is_mapped (spec.path_of self.now) }
+    {
+        is_mapped(self.path())
     }
 
     /// Whether the value is to refer to something.
@@ -120,8 +203,10 @@ impl Asked {
     }
 
     /// Whether the value is under a key.
-    pub fn is_under(&self, key: &str) -> bool {
-        self.key().is_some_and(|own| own == key)
+    pub fn is_under(&self, key: &str) -> bool
+        ensures value { result ≡ keys.is_key key.now (spec.key_of self.now) }
+    {
+        is_key(self.key(), key)
     }
 
     /// The reference that is there: its text, and the text that is followed.
@@ -138,23 +223,25 @@ impl Asked {
         Ok(Some(text))
     }
 
-    // The text that the value is.
+    // The text that the value is: the one that is written at the place, as of a member that comes again, and else that of the document's value.
     fn text(&self, desk: &Desk<'_>) -> Result<Option<String>, AllocError> {
         let alloc = desk.alloc();
-        if desk.fault_of(self.number).is_none() {
-            if let Some(root) = desk.workspace.value(self.number) {
-                return match root.pointer(self.pointer.as_str()).and_then(Value::as_str) {
-                    Some(text) => Ok(Some(String::from_str(alloc, text)?)),
-                    None => Ok(None),
-                };
+        let (format, text) = desk.text_of(self.number);
+        let root = match desk.fault_of(self.number) {
+            None => desk.workspace.value(self.number),
+            Some(_) => None,
+        };
+        if let Some(part) = &self.part {
+            if !part.is_key && (format == Format::Json || root.is_none()) {
+                return decoded(alloc, text.get(part.start..part.end).unwrap_or(""));
             }
         }
-        match &self.part {
-            Some(part) if !part.is_key => {
-                let (_, text) = desk.text_of(self.number);
-                decoded(alloc, text.get(part.start..part.end).unwrap_or(""))
-            }
-            _ => Ok(None),
+        match root
+            .and_then(|root| root.pointer(self.pointer.as_str()))
+            .and_then(Value::as_str)
+        {
+            Some(text) => Ok(Some(String::from_str(alloc, text)?)),
+            None => Ok(None),
         }
     }
 
@@ -203,31 +290,22 @@ pub struct Target {
 
 const NOWHERE: Range = ((0, 0), (0, 0));
 
-/// The place at a pointer of the document with a number.
+/// The place at a pointer of the document with a number. In a file of a map it is that of the text that the client has open, where it has.
 pub fn target_of(
     desk: &Desk<'_>,
     number: usize,
     pointer: &str,
 ) -> Result<Option<Target>, AllocError> {
-    let alloc = desk.alloc();
-    if number < desk.workspace.documents().len() {
-        let uri = desk.client_uri(number)?;
-        let (format, text) = desk.text_of(number);
-        return Ok(Some(target_in(desk, uri, (format, text), pointer)?));
+    if let Some(file) = desk.mapped_file(number)? {
+        let uri = file_uri(desk.alloc(), file.path.as_str())?;
+        let text = (file.format, file.text.as_str());
+        return Ok(Some(target_in(desk, uri, text, pointer)?));
     }
-    let Some(uri) = desk.workspace.uri(number) else {
+    if desk.workspace.documents().len() <= number && desk.open_of(number).is_none() {
         return Ok(None);
-    };
-    let Some(path) = desk.maps.path_of(alloc, uri.as_str())? else {
-        return Ok(None);
-    };
-    let text = match desk.maps.text(alloc, uri.as_str())? {
-        Some(text) => text,
-        None => String::new(alloc),
-    };
-    let uri = ref_files::file_uri(alloc, path.as_str())?;
-    let format = Format::of_path(path.as_str());
-    Ok(Some(target_in(desk, uri, (format, text.as_str()), pointer)?))
+    }
+    let uri = desk.client_uri(number)?;
+    Ok(Some(target_in(desk, uri, desk.text_of(number), pointer)?))
 }
 
 fn target_in(

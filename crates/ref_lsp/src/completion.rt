@@ -1,16 +1,24 @@
 //! What may be written in a reference.
-use crate::asked::{Asked, asked_place};
+ghost use Rattle.std.specs.Prelude.{◌≡◌, ◌≤◌, ◌++◌, IfOk, OnOk, length, option_map, string_bytes};
+ghost use Rattle.std.specs.List.{list_any};
+ghost use Rattle.ref_lsp.specs.Keys as keys;
+ghost use Rattle.ref_lsp.specs.Relative as spec;
+
+use crate::asked::{Asked, written_place};
+use crate::definition::followed;
 use crate::desk::Desk;
+use crate::keys::{is_key, key_before, key_of};
 use crate::workspace_symbols::named_in;
+use ref_files::{Format, folder_of, last_name};
 use ref_fixes::{as_fragment, written};
+use ref_positions::Step;
 use ref_protocol::pieces::{push_comma, push_range, push_text, quoted};
 use ref_protocol::refusal::Refusal;
-use ref_uri::UriFault;
-use ref_uri::uri::resolve_against;
 use ref_workspace::View;
 use ref_workspace::follow::Start;
 use serde_json::Value;
 use std::alloc::{AllocError, Global};
+use std::collections::BTreeSet;
 
 // The dialects that a `$schema` may name.
 const DIALECTS: [&str; 5] = [
@@ -26,10 +34,10 @@ const DIALECTS: [&str; 5] = [
 struct Items<'d> {
     desk: &'d Desk<'d>,
     out: String,
-    // What is replaced, and the edit of an item up to its new text.
+    // What is replaced, and the edit of an item up to its new text, with the quote before this.
     token: String,
     edit: String,
-    format: ref_files::Format,
+    format: Format,
 }
 
 // The kinds of items in the protocol: a value, a file and a reference.
@@ -39,12 +47,13 @@ const FILE: &str = "17";
 
 const REFERENCE: &str = "18";
 
-/// `textDocument/completion`: in a `$schema` the dialects; in another reference, before a `#`, the documents and the places of the document itself, and
-/// after it the places of the document that is named.
+/// `textDocument/completion`: in a `$schema` the dialects of the drafts and those whose meta-schemas are among the documents, in a `$recursiveRef` the one text that it may have; in another reference, before a `#`, the documents
+/// and the places of the document itself, and after it the places of the document that is named, or of the schema in it that has an identifier of its own and is
+/// named. One look-up, and one for each name of an anchor. The reference may lack its last quote, and in YAML it may be but its keyword.
 pub fn completion(desk: &Desk<'_>, view: &View<'_, '_>, params: &Value) -> Result<String, Refusal> {
     let alloc = desk.alloc();
     let mut out = String::from_str(alloc, "[")?;
-    if let Some(asked) = asked_place(desk, params)? {
+    if let Some(asked) = written_place(desk, params)? {
         if asked.is_referring() && asked.part.as_ref().is_some_and(|part| !part.is_key) {
             out = listed(desk, view, &asked)?;
         }
@@ -61,18 +70,19 @@ fn listed(desk: &Desk<'_>, view: &View<'_, '_>, asked: &Asked) -> Result<String,
         None => (asked.offset, asked.offset),
     };
     let token = text.get(start..end).unwrap_or("");
+    let lead = lead_of(format, text.get(..start).unwrap_or(""), token);
     let before = asked.before(desk);
     let mut items = Items {
         desk,
         out: String::from_str(alloc, "[")?,
         token: String::from_str(alloc, token)?,
-        edit: edit_of(alloc, desk, asked)?,
+        edit: edit_of(alloc, desk, asked, lead)?,
         format,
     };
     if asked.is_under("$schema") {
-        for dialect in DIALECTS {
-            items.push(dialect, VALUE)?;
-        }
+        items.push_dialects()?;
+    } else if asked.is_under("$recursiveRef") {
+        items.push("#", VALUE)?;
     } else {
         match before.split_once('#') {
             Some((front, _)) => items.push_places(view, asked, front)?,
@@ -82,11 +92,28 @@ fn listed(desk: &Desk<'_>, view: &View<'_, '_>, asked: &Asked) -> Result<String,
     Ok(items.out)
 }
 
-// The edit of an item up to its new text.
-fn edit_of(alloc: Global, desk: &Desk<'_>, asked: &Asked) -> Result<String, AllocError> {
+// What is needed between a text and a scalar that comes in place of a token after it: a blank after a colon of YAML.
+fn lead_of(format: Format, before: &str, token: &str) -> &'static str
+    ensures { result.now ≡ keys.lead_of format before.now token.now }
+{
+    if format == Format::Yaml && token.is_empty() && before.as_bytes().ends_with(b":") {
+        " "
+    } else {
+        ""
+    }
+}
+
+// The edit of an item up to its new text, with the quote before this and what it begins with.
+fn edit_of(
+    alloc: Global,
+    desk: &Desk<'_>,
+    asked: &Asked,
+    lead: &str,
+) -> Result<String, AllocError> {
     let mut edit = String::new(alloc);
     push_range(&mut edit, ",\"textEdit\":{\"range\":", asked.range(desk))?;
-    edit.push_str(",\"newText\":")?;
+    edit.push_str(",\"newText\":\"")?;
+    edit.push_str(lead)?;
     Ok(edit)
 }
 
@@ -103,8 +130,24 @@ impl Items<'_> {
         self.out.push_str(",\"filterText\":")?;
         self.out.push_str(new.as_str())?;
         self.out.push_str(self.edit.as_str())?;
-        self.out.push_str(new.as_str())?;
+        self.out
+            .push_str(new.as_str().strip_prefix('"').unwrap_or(""))?;
         self.out.push_str("}}")
+    }
+
+    // Adds the dialects of the drafts, and those whose meta-schemas are among the documents.
+    fn push_dialects(&mut self) -> Result<(), AllocError> {
+        for dialect in DIALECTS {
+            self.push(dialect, VALUE)?;
+        }
+        let desk = self.desk;
+        for number in 0..desk.workspace.len() {
+            match desk.workspace.value(number).and_then(dialect_of) {
+                Some(own) if !DIALECTS.contains(&own) => self.push(own, VALUE)?,
+                _ => {}
+            }
+        }
+        Ok(())
     }
 
     // Adds the documents by their relative paths, and the places of the document itself.
@@ -125,7 +168,7 @@ impl Items<'_> {
         Ok(())
     }
 
-    // Adds the places of the document that a text names.
+    // Adds the places of what a text names: it leads to that with an empty fragment, and with a pointer to what is there in that.
     fn push_places(
         &mut self,
         view: &View<'_, '_>,
@@ -133,24 +176,46 @@ impl Items<'_> {
         front: &str,
     ) -> Result<(), AllocError> {
         let alloc = self.desk.alloc();
-        let Some(number) = named(alloc, view, asked, front)? else {
+        let whole = format!(in alloc; "{front}#")?;
+        let Some(found) = followed(alloc, view, start_of(asked), whole.as_str())? else {
             return Ok(());
         };
-        let Some(root) = view.workspace.value(number) else {
-            return Ok(());
-        };
-        for pointer in named_in(alloc, root)? {
-            if is_of_kind(asked.pointer.as_str(), pointer.as_str()) {
+        for pointer in named_in(alloc, found.value)? {
+            if is_of_kind(asked.path(), pointer.as_str()) {
                 let fragment = as_fragment(alloc, pointer.as_str())?;
                 let text = format!(in alloc; "{front}#{fragment}")?;
                 self.push(text.as_str(), REFERENCE)?;
             }
         }
-        for anchor in anchors_in(alloc, root)? {
+        for anchor in anchors_in(alloc, found.value)? {
             let text = format!(in alloc; "{front}#{anchor}")?;
-            self.push(text.as_str(), REFERENCE)?;
+            self.push_anchor(view, asked, text.as_str(), found.document)?;
         }
         Ok(())
+    }
+
+    // Adds a text, where it leads into a document.
+    fn push_anchor(
+        &mut self,
+        view: &View<'_, '_>,
+        asked: &Asked,
+        text: &str,
+        document: usize,
+    ) -> Result<(), AllocError> {
+        match followed(self.desk.alloc(), view, start_of(asked), text)? {
+            Some(found) if found.document == document => self.push(text, REFERENCE),
+            _ => Ok(()),
+        }
+    }
+}
+
+// The identifier of a meta-schema that has vocabularies, where it is no reference relative to a base, which a `$schema` can't be (2020-12 Core, 8.1.1).
+fn dialect_of(root: &Value) -> Option<&str> {
+    let id = root.get("$id").and_then(Value::as_str)?;
+    if has_colon(id.as_bytes()) && root.get("$vocabulary").is_some() {
+        Some(id)
+    } else {
+        None
     }
 }
 
@@ -161,83 +226,110 @@ fn start_of(asked: &Asked) -> Start<'_> {
     }
 }
 
-// The number of the document that a text names from a place.
-fn named(
-    alloc: Global,
-    view: &View<'_, '_>,
-    asked: &Asked,
-    front: &str,
-) -> Result<Option<usize>, AllocError> {
-    if front.is_empty() {
-        return Ok(Some(asked.number));
-    }
-    let Some(base) = view.base_at(alloc, start_of(asked))? else {
-        return Ok(None);
-    };
-    match resolve_against(alloc, base.borrow(), front) {
-        Ok(uri) => Ok(view.number_of(uri.as_str())),
-        Err(UriFault::Memory(error)) => Err(error),
-        Err(UriFault::Invalid(error)) => {
-            drop(error);
-            Ok(None)
-        }
-    }
-}
-
-// The groups of components whose members aren't schemas, with the keys that references to them are below: one that may be in another comes before it.
-const GROUPS: [(&str, &str); 6] = [
-    ("requestBodies", "/requestBody/"),
-    ("callbacks", "/callbacks/"),
-    ("links", "/links/"),
-    ("headers", "/headers/"),
-    ("responses", "/responses/"),
-    ("parameters", "/parameters/"),
+// The groups of components whose members aren't schemas. The object that refers to one is a member or an item of what has the same name.
+const GROUPS: [&str; 8] = [
+    "callbacks",
+    "examples",
+    "headers",
+    "links",
+    "parameters",
+    "requestBodies",
+    "responses",
+    "securitySchemes",
 ];
 
-// The group of the components that a reference needs whose pointer is this outside of schemas.
-fn needed_in(inner: &str) -> &'static str {
-    for (name, key) in GROUPS {
-        if inner.contains(key) {
-            return name;
-        }
-    }
-    "schemas"
-}
+// The members that have definitions, which are schemas.
+const DEFINITIONS: [&str; 2] = ["$defs", "definitions"];
 
-// Whether a component is of the kind that a reference at a pointer needs. A component that is a schema is needed below `schema`, and
-// where no other group is.
-fn is_of_kind(at: &str, component: &str) -> bool {
-    let Some(rest) = component.strip_prefix("/components/") else {
-        return true;
-    };
-    let needed = needed_in(inner_of(at));
-    match rest.split_once('/') {
-        Some((group, _)) => group == needed,
-        None => needed.is_empty(),
-    }
-}
+// The members whose values are path items.
+const PATH_ITEMS: [&str; 3] = ["paths", "webhooks", "pathItems"];
 
-// What of a pointer is in no schema: nothing where it is in one.
-fn inner_of(at: &str) -> &str {
-    if at.contains("/schema/") || at.contains("/schemas/") {
-        ""
+// The group of the components that the reference at a path needs: nothing where it needs an operation.
+fn needed_at(path: &[Step]) -> Option<&str>
+    ensures { option_map (λ group. group.now) result ≡ keys.needed path.now }
+{
+    if is_key(key_before(path, 0), "operationRef") {
+        None
+    } else if is_in_schema(path) {
+        Some("schemas")
+    } else if is_key(key_before(path, 1), "requestBody") {
+        Some("requestBodies")
+    } else if is_path_item(path) {
+        Some("pathItems")
     } else {
-        at
+        Some(group_named(key_before(path, 2)))
     }
 }
 
-// The names of the anchors of a value.
+// Whether a path is in a schema of a description.
+fn is_in_schema(path: &[Step]) -> bool
+    ensures { result ≡ keys.is_in_schema path.now }
+{
+    if path.len() < 2 {
+        return false;
+    }
+    has_schemas(&path[..path.len() - 1]) || is_key(key_of(&path[0]), "definitions")
+}
+
+// Whether one of some steps is to schemas of a description.
+fn has_schemas(steps: &[Step]) -> bool
+    ensures { result ≡ list_any keys.has_schemas steps.now }
+{
+    let mut rest = steps;
+    'steps: while let [step, more @ ..] = rest {
+        let key = key_of(step);
+        if is_key(key, "schema") || is_key(key, "schemas") {
+            return true;
+        }
+        rest = more;
+    }
+    false
+}
+
+// Whether the object that has the last key of a path is a path item: in a callback they are by their expressions.
+fn is_path_item(path: &[Step]) -> bool
+    ensures { result ≡ keys.is_path_item path.now }
+{
+    match key_before(path, 2) {
+        Some(name) if PATH_ITEMS.contains(&name) => true,
+        _ => is_key(key_before(path, 3), "callbacks"),
+    }
+}
+
+// The group of the components that objects are in members of with a name.
+fn group_named(name: Option<&str>) -> &str
+    ensures { result.now ≡ keys.group_named (option_map (λ own. own.now) name.entry) }
+{
+    match name {
+        Some(name) if GROUPS.contains(&name) => name,
+        _ => "schemas",
+    }
+}
+
+// Whether a component is of the kind that a reference at a path needs. A component that is a schema is needed in another, and
+// where no other group is. Definitions are offered anywhere, and what else the root of a description of Swagger has where it is needed.
+fn is_of_kind(path: &[Step], component: &str) -> bool
+    ensures { result ≡ keys.is_of_kind path.now component.now }
+{
+    let group = last_name(folder_of(component));
+    DEFINITIONS.contains(&group) || is_key(needed_at(path), group)
+}
+
+// The names that may be those of anchors of a value, each once.
 fn anchors_in<'v>(alloc: Global, root: &'v Value) -> Result<Vec<&'v str>, AllocError> {
     let mut names = Vec::new(alloc);
+    let mut seen = BTreeSet::new(alloc);
     let mut waiting = Vec::new(alloc);
     waiting.push(root)?;
     for _ in 0..u64::MAX {
         let Some(value) = waiting.pop() else {
             break;
         };
-        for key in ["$anchor", "$dynamicAnchor"] {
-            if let Some(name) = value.get(key).and_then(Value::as_str) {
-                names.push(name)?;
+        for key in ["$anchor", "$dynamicAnchor", "$id", "id"] {
+            if let Some(name) = value.get(key).and_then(|text| anchor_under(key, text)) {
+                if seen.insert(name)? {
+                    names.push(name)?;
+                }
             }
         }
         push_below(&mut waiting, value)?;
@@ -245,7 +337,18 @@ fn anchors_in<'v>(alloc: Global, root: &'v Value) -> Result<Vec<&'v str>, AllocE
     Ok(names)
 }
 
-fn push_below<'v>(waiting: &mut Vec<&'v Value>, value: &'v Value) -> Result<(), AllocError> {
+// The name that a value under a key may give: up to Draft 7 an identifier of a fragment alone is an anchor.
+fn anchor_under<'v>(key: &str, value: &'v Value) -> Option<&'v str> {
+    let text = value.as_str()?;
+    if key.ends_with("id") {
+        text.strip_prefix('#')
+    } else {
+        Some(text)
+    }
+}
+
+/// Adds the values that are in one.
+pub fn push_below<'v>(waiting: &mut Vec<&'v Value>, value: &'v Value) -> Result<(), AllocError> {
     match value {
         Value::Object(members) => {
             for (_, member) in members {
@@ -262,40 +365,119 @@ fn push_below<'v>(waiting: &mut Vec<&'v Value>, value: &'v Value) -> Result<(), 
     Ok(())
 }
 
-// A URI from a base, by as many steps up as are needed where both have their scheme and host in common.
-fn relative(alloc: Global, base: &str, uri: &str) -> Result<String, AllocError> {
-    let (start, slashes) = shared(base.as_bytes(), uri.as_bytes());
-    if slashes < 3 {
+// A URI from a base, by as many steps up as are needed where both have their scheme and host in common, and else as it is.
+fn relative(alloc: Global, base: &str, uri: &str) -> Result<String, AllocError>
+    ensures { IfOk result (λ text. string_bytes text ≡ spec.relative base.now uri.now) }
+{
+    let base = without_query(base).as_bytes();
+    let start = shared(base, uri.as_bytes());
+    if slashes(&base[..start]) < 3 {
         return String::from_str(alloc, uri);
     }
+    after_ups(alloc, slashes(&base[start..]), &uri[start..])
+}
+
+// A path after so many steps up: where there is none, in a form in which it means a path.
+fn after_ups(alloc: Global, count: usize, path: &str) -> Result<String, AllocError>
+    ensures { IfOk result (λ text. string_bytes text ≡ spec.after_ups count path.now) }
+{
     let mut text = String::new(alloc);
-    for byte in after(base, start).bytes() {
-        if byte == b'/' {
-            text.push_str("../")?;
-        }
+    if count == 0 && is_misread(path.as_bytes()) {
+        text.push_str("./")?;
     }
-    text.push_str(after(uri, start))?;
+    push_ups(&mut text, count)?;
+    text.push_str(path)?;
     Ok(text)
 }
 
-// What of a text is after an offset.
-fn after(text: &str, start: usize) -> &str {
-    text.get(start..).unwrap_or("")
+// A base without its query, which counts for no reference to a path.
+fn without_query(base: &str) -> &str
+    ensures { result.now ≡ spec.without_query base.now }
+{
+    match base.split_once('?') {
+        Some((front, _)) => front,
+        None => base,
+    }
 }
 
-// Up to which offset two texts have the same folders, and how many slashes are before it.
-fn shared(base: &[u8], uri: &[u8]) -> (usize, usize) {
+// How many bytes the folders have that two URIs are both in: up to the last slash before which they are the same.
+#[tactic(auto, using(crate::proofs::Folders::within_base, crate::proofs::Folders::within_uri))]
+fn shared(base: &[u8], uri: &[u8]) -> usize
+    ensures value { result ≡ spec.shared base.now uri.now }
+    ensures within_base { result ≤ length base.now }
+    ensures within_uri { result ≤ length uri.now }
+{
+    let mut left = base;
+    let mut right = uri;
+    let mut passed: usize = 0;
     let mut start: usize = 0;
-    let mut slashes: usize = 0;
-    for (place, byte) in base.iter().enumerate() {
-        let other = uri.get(place).copied();
-        if other != Some(*byte) {
-            break;
-        }
-        if *byte == b'/' {
-            slashes = slashes.saturating_add(1);
-            start = place.saturating_add(1);
+    'bytes: while let [byte, more @ ..] = left {
+        match right {
+            [other, others @ ..] if byte == other => {
+                passed += 1;
+                if *byte == b'/' {
+                    start = passed;
+                }
+                left = more;
+                right = others;
+            }
+            _ => return start,
         }
     }
-    (start, slashes)
+    start
+}
+
+// How many slashes are in bytes.
+fn slashes(bytes: &[u8]) -> usize
+    ensures value { result ≡ spec.slashes bytes.now }
+{
+    let mut rest = bytes;
+    let mut count: usize = 0;
+    'bytes: while let [byte, more @ ..] = rest {
+        if *byte == b'/' {
+            count += 1;
+        }
+        rest = more;
+    }
+    count
+}
+
+// Adds so many steps up.
+fn push_ups(text: &mut String, count: usize) -> Result<(), AllocError>
+    ensures { OnOk result (string_bytes text.new ≡ string_bytes text.old ++ spec.ups count) }
+{
+    let mut left = count;
+    'ups: while 0 < left {
+        text.push_str("../")?;
+        left -= 1;
+    }
+    Ok(())
+}
+
+// Whether a colon comes before a slash and a question mark.
+fn has_colon(bytes: &[u8]) -> bool
+    ensures { result ≡ spec.has_colon bytes.now }
+{
+    let mut rest = bytes;
+    'bytes: while let [byte, more @ ..] = rest {
+        if *byte == b':' {
+            return true;
+        }
+        if *byte == b'/' || *byte == b'?' {
+            return false;
+        }
+        rest = more;
+    }
+    false
+}
+
+// Whether a reference means another URI than a path from the same folder: it is empty, begins with a slash or a question mark, or has a colon in
+// its first segment (RFC 3986, 4.2).
+fn is_misread(bytes: &[u8]) -> bool
+    ensures { result ≡ spec.is_misread bytes.now }
+{
+    match bytes {
+        [] => true,
+        [first, ..] => *first == b'/' || *first == b'?' || has_colon(bytes),
+    }
 }

@@ -1,5 +1,7 @@
 //! The documents below the client's folders, with those texts that it has open.
+use crate::mapped::real_path;
 use crate::summaries::Summaries;
+use crate::texts::last_put;
 use ref_command_line::say_failures;
 use ref_draft::Draft;
 use ref_files::{
@@ -12,7 +14,7 @@ use ref_uri::uri::from_str;
 use ref_uri::{Uri, UriFault};
 use ref_workspace::{Document, Workspace};
 use std::alloc::{AllocError, Global};
-use std::{fs, io};
+use std::fs;
 
 /// What a server is started with.
 #[derive(Drop)]
@@ -29,6 +31,8 @@ pub struct Settings {
     pub has_ignore: bool,
     /// Whether each file of YAML is read.
     pub has_yaml: bool,
+    /// The absolute path of a configuration that isn't called `patchsard.toml`, where one counts.
+    pub configuration: Option<String>,
 }
 
 /// A path or a pattern that is left out.
@@ -52,6 +56,17 @@ impl LeftOut {
     }
 }
 
+// Where a document is read from.
+#[derive(Drop)]
+struct Place {
+    // The absolute path without links.
+    path: String,
+    // Whether it is read only where its root says what it is, or something refers to it.
+    is_optional: bool,
+    // Whether the file was listed: it is read, whether it is open or not.
+    is_listed: bool,
+}
+
 /// A text that the client has open.
 #[derive(Drop)]
 pub struct OpenText {
@@ -69,6 +84,8 @@ pub struct OpenText {
     pub sound: Option<String>,
     /// The number of its document, where it is one.
     pub number: Option<usize>,
+    /// When it was put in place of the file's: of two texts of one file the one that was put last counts.
+    pub turn: usize,
 }
 
 /// The documents below the client's folders, with those texts that it has open.
@@ -80,6 +97,8 @@ pub struct Desk<'r> {
     pub(crate) maps: Maps<'r>,
     /// How positions count.
     pub(crate) encoding: Encoding,
+    /// Whether the client takes no Markdown over a place.
+    pub(crate) is_plain: bool,
     /// The paths of the client's folders.
     pub(crate) folders: Vec<String>,
     /// The texts that are open.
@@ -88,8 +107,12 @@ pub struct Desk<'r> {
     pub(crate) workspace: Workspace,
     /// What they have to do with one another.
     pub(crate) summaries: Summaries,
-    // The absolute paths without links of those that were read, by their numbers.
-    real: Vec<String>,
+    // Whether it is told what is beside references of descriptions.
+    tells_beside: bool,
+    // Where those are that were read, by their numbers.
+    places: Vec<Place>,
+    // How often a text was put in place of a file's.
+    turn: usize,
     // Files of YAML that say at their roots neither what they are, nor is one referred to.
     pub(crate) passed: Vec<ReadFile>,
     // Whether files came or went.
@@ -109,16 +132,25 @@ impl<'r> Desk<'r> {
             settings,
             maps,
             encoding: Encoding::Utf16,
+            is_plain: false,
             folders: Vec::new(rt.alloc()),
             open: Vec::new(rt.alloc()),
             workspace,
             summaries: Summaries::new(rt.alloc()),
-            real: Vec::new(rt.alloc()),
+            tells_beside: false,
+            places: Vec::new(rt.alloc()),
+            turn: 0,
             passed: Vec::new(rt.alloc()),
             is_stale: true,
             is_moved: true,
             is_reset: false,
         }
+    }
+
+    /// Sets whether it is told what is beside references of descriptions.
+    pub(crate) fn tell_beside(&mut self, is_told: bool) {
+        self.tells_beside = is_told;
+        self.workspace.tell_beside(is_told);
     }
 
     /// Where memory is taken.
@@ -131,13 +163,25 @@ impl<'r> Desk<'r> {
         self.is_moved = true;
         self.summaries.note_all();
         self.workspace = Workspace::new(self.alloc(), self.settings.draft);
-        self.real.clear();
+        self.workspace.tell_beside(self.tells_beside);
+        self.places.clear();
         self.passed.clear();
         self.read_folders()?;
-        for index in 0..self.open.len() {
+        self.retrieve()?;
+        for (_, index) in self.turns()? {
             self.place(index)?;
         }
         Ok(())
+    }
+
+    // When each of the open texts was put, with its number among them, in this order.
+    fn turns(&self) -> Result<Vec<(usize, usize)>, AllocError> {
+        let mut turns = Vec::new(self.alloc());
+        for (index, open) in self.open.iter().enumerate() {
+            turns.push((open.turn, index))?;
+        }
+        turns.sort()?;
+        Ok(turns)
     }
 
     fn read_folders(&mut self) -> Result<(), AllocError> {
@@ -155,6 +199,7 @@ impl<'r> Desk<'r> {
         };
         let read = read_all(rt, base, listed.files)?;
         say_failures(rt, &read.failures);
+        self.passed = read.passed;
         let new = self.new_texts()?;
         let mut next = 0;
         for file in read.files {
@@ -166,15 +211,16 @@ impl<'r> Desk<'r> {
         for (_, index) in new.as_slice().get(next..).unwrap_or(&[]) {
             self.place(*index)?;
         }
-        self.passed = read.passed;
         Ok(())
     }
 
-    // The paths of the open texts that are no files, in byte order, as files are listed, each with its number among the open ones.
+    // The paths of the open texts that are no files or whose files were passed over, in byte order, as files are listed, each with its number among
+    // the open ones.
     fn new_texts(&self) -> Result<Vec<(String, usize)>, AllocError> {
         let mut new = Vec::new(self.alloc());
         for (index, open) in self.open.iter().enumerate() {
-            if self.real_path(open.path.as_str())?.is_none() {
+            let path = open.path.as_str();
+            if self.real_path(path)?.is_none() || self.passed_at(path)?.is_some() {
                 new.push((open.path.clone()?, index))?;
             }
         }
@@ -232,28 +278,34 @@ impl<'r> Desk<'r> {
             shown,
             path,
             is_own,
+            is_optional,
             ..
         } = file;
+        let place = Place {
+            path,
+            is_optional,
+            is_listed: true,
+        };
         let document = Document {
             name: shown,
             uri,
             text,
         };
         if is_own {
-            self.enter_own(path, document)
+            self.enter_own(place, document)
         } else {
             let number = self.workspace.opened();
-            self.real.push(path)?;
+            self.places.push(place)?;
             self.workspace.open_beside(document)?;
             Ok(number)
         }
     }
 
-    // Opens a document that is asked about, of the file at a path.
-    fn enter_own(&mut self, path: String, document: Document) -> Result<usize, AllocError> {
+    // Opens a document that is asked about, of the file at a place.
+    fn enter_own(&mut self, place: Place, document: Document) -> Result<usize, AllocError> {
         self.summaries.note_all();
         let number = self.workspace.asked();
-        self.real.insert(number.min(self.real.len()), path)?;
+        self.places.insert(number.min(self.places.len()), place)?;
         for open in &mut self.open {
             if let Some(other) = open.number {
                 if number <= other {
@@ -267,10 +319,15 @@ impl<'r> Desk<'r> {
 
     /// The absolute path of the file of the document with a number.
     pub(crate) fn path_of(&self, number: usize) -> &str {
-        match self.real.get(number) {
-            Some(path) => path.as_str(),
+        match self.places.get(number) {
+            Some(place) => place.path.as_str(),
             None => "",
         }
+    }
+
+    /// Whether the file of the document with a number was listed, so that it is read though it isn't open.
+    pub(crate) fn is_listed(&self, number: usize) -> bool {
+        self.places.get(number).is_some_and(|place| place.is_listed)
     }
 
     /// Finds the document of an open text, and puts the text in place of the file's; or makes it a document, where it may be one.
@@ -299,23 +356,22 @@ impl<'r> Desk<'r> {
                 return Ok(Some(number));
             }
         }
-        match self.real_path(path)? {
-            Some(path) => Ok(
-                self.real
-                    .iter()
-                    .position(|real| real.as_str() == path.as_str()),
-            ),
-            None => Ok(None),
+        let Some(path) = self.real_path(path)? else {
+            return Ok(None);
+        };
+        let number = self
+            .places
+            .iter()
+            .position(|place| place.path.as_str() == path.as_str());
+        match number {
+            Some(number) => Ok(Some(number)),
+            None => self.retrieved_at(path.as_str()),
         }
     }
 
-    // A path without links, where something is there.
-    fn real_path(&self, path: &str) -> Result<Option<String>, AllocError> {
-        match fs::canonicalize(self.rt, path) {
-            Ok(real) => Ok(Some(real.into_string())),
-            Err(error) if error.kind() == io::ErrorKind::OutOfMemory => Err(AllocError),
-            Err(_) => Ok(None),
-        }
+    /// A path without links, where something is there.
+    pub(crate) fn real_path(&self, path: &str) -> Result<Option<String>, AllocError> {
+        real_path(self.rt, path)
     }
 
     // Makes an open text a document, where it may be one.
@@ -325,41 +381,117 @@ impl<'r> Desk<'r> {
             return Ok(None);
         };
         let path = open.path.clone()?;
-        let is_marked = open.format == Format::Json || is_marked(open.text.as_str());
+        let format = open.format;
+        let text = DocumentText::new(alloc, format, open.text.clone()?)?;
+        let is_read = !self.is_optional(format) || is_marked(&text);
         if let Some(place) = self.passed_at(path.as_str())? {
-            if is_marked && place < self.passed.len() {
+            if is_read && place < self.passed.len() {
+                // Its place is among the files: all are listed again before it is judged.
+                self.is_stale = true;
                 let file = self.passed.remove(place);
                 return Ok(Some(self.enter(file)?));
             }
             return Ok(None);
         }
-        if !is_marked || self.is_left_out(path.as_str())? {
+        if !is_read || self.is_left_out(path.as_str())? {
             return Ok(None);
         }
         let Some(uri) = self.uri_at(path.as_str())? else {
             return Ok(None);
         };
-        let format = self
-            .open
-            .get(index)
-            .map_or(Format::Json, |open| open.format);
-        let text = DocumentText::new(alloc, format, String::from_str(alloc, "{}")?)?;
         let name = path.clone()?;
-        // Its place is among the files: all are listed again before it is judged.
         self.is_stale = true;
-        let number = self.enter_own(path, Document { name, uri, text })?;
-        self.unseat(index, number)?;
+        let place = Place {
+            path,
+            is_optional: self.is_optional(format),
+            is_listed: false,
+        };
+        // Where it has no value, nothing counts in its place.
+        let number = self.enter_own(place, Document { name, uri, text })?;
         Ok(Some(number))
     }
 
-    // Puts the text of a new document in place of none: where it has no value, nothing counts in its place.
-    fn unseat(&mut self, index: usize, number: usize) -> Result<(), AllocError> {
+    // Whether a text that is written so is read only where its root says what it is, or something refers to it.
+    fn is_optional(&self, format: Format) -> bool {
+        format == Format::Yaml && !self.settings.has_yaml
+    }
+
+    /// Whether the document with a number is one that is read only where its root says what it is, or something refers to it, and its root doesn't
+    /// say that.
+    pub(crate) fn is_unmarked(&self, number: usize) -> bool {
+        match (
+            self.places.get(number),
+            self.workspace.documents().get(number),
+        ) {
+            (Some(place), Some(document)) => place.is_optional && !is_marked(&document.text),
+            _ => false,
+        }
+    }
+
+    /// Lets go of the document with a number, and passes its file over, where it is one that is listed.
+    pub(crate) fn pass_over(&mut self, number: usize) -> Result<(), AllocError> {
         let alloc = self.alloc();
-        let Some(open) = self.open.get(index) else {
+        let Some(document) = self.workspace.documents().get(number) else {
             return Ok(());
         };
-        let text = DocumentText::new(alloc, open.format, open.text.clone()?)?;
-        self.workspace.replace(number, text);
+        let (shown, uri) = (document.name.clone()?, document.uri.clone()?);
+        let format = document.text.format;
+        let path = String::from_str(alloc, self.path_of(number))?;
+        let is_own = number < self.workspace.asked();
+        self.summaries.note_all();
+        let is_listed = !is_own || self.is_in_folder(number);
+        self.workspace.close(number);
+        self.forget(number);
+        if !is_listed {
+            return Ok(());
+        }
+        match fs::read_to_string(self.rt, path.as_str()) {
+            Ok(text) => {
+                let text = DocumentText::of_bytes(alloc, format, text.as_bytes())?;
+                let file = File {
+                    shown,
+                    path,
+                    below: String::new(alloc),
+                    is_input: false,
+                    is_own,
+                    is_optional: true,
+                };
+                self.passed.push(ReadFile { file, uri, text })?;
+                Ok(())
+            }
+            Err(error) => {
+                drop(error);
+                Ok(())
+            }
+        }
+    }
+
+    // Forgets where the document with a number was: those after it have the numbers before their own.
+    fn forget(&mut self, number: usize) {
+        if number < self.places.len() {
+            let gone = self.places.remove(number);
+            drop(gone);
+        }
+        for open in &mut self.open {
+            if let Some(other) = open.number {
+                if other == number {
+                    open.number = None;
+                } else if number < other {
+                    open.number = Some(other.saturating_sub(1));
+                }
+            }
+        }
+    }
+
+    /// Has all listed again where the file at a path was passed over, since the client had it open so, and says at its root what it is.
+    pub(crate) fn list_marked(&mut self, path: &str) -> Result<(), AllocError> {
+        if let Some(place) = self.passed_at(path)? {
+            if let Some(file) = self.passed.get(place) {
+                if is_marked(&file.text) {
+                    self.is_stale = true;
+                }
+            }
+        }
         Ok(())
     }
 
@@ -412,15 +544,21 @@ impl<'r> Desk<'r> {
         parsed_uri(alloc, file_uri(alloc, path)?.as_str())
     }
 
-    /// Puts an open text in place of that of the document with a number. One that has no value is kept aside where the document has one.
+    /// Puts an open text in place of that of the document with a number. One that has no value is kept aside where the document has one. That of a
+    /// document which was retrieved counts once it is retrieved again.
     pub(crate) fn put(&mut self, index: usize, number: usize) -> Result<(), AllocError> {
         self.is_moved = true;
         self.summaries.note(number)?;
+        self.lead(index);
         let alloc = self.alloc();
         let Some(open) = self.open.get(index) else {
             return Ok(());
         };
         let made = DocumentText::new(alloc, open.format, open.text.clone()?)?;
+        if self.workspace.opened() <= number {
+            self.put_mapped(index, made);
+            return Ok(());
+        }
         if made.fault().is_none() {
             self.workspace.replace(number, made);
             self.keep_fault(index, None, None);
@@ -437,6 +575,20 @@ impl<'r> Desk<'r> {
             self.keep_fault(index, Some(fault), Some(sound));
         }
         Ok(())
+    }
+
+    /// Notes that an open text is put last.
+    pub(crate) fn lead(&mut self, index: usize) {
+        self.turn = self.turn.saturating_add(1);
+        let turn = self.turn;
+        if let Some(open) = self.open.get_mut(index) {
+            open.turn = turn;
+        }
+    }
+
+    /// Which of the open texts counts for the document with a number: that which was put last.
+    pub(crate) fn open_of(&self, number: usize) -> Option<usize> {
+        last_put(self.open.as_slice(), number)
     }
 
     // Puts the last text with a value in place of the file's.
@@ -472,8 +624,8 @@ impl<'r> Desk<'r> {
 
     /// The text of the document with a number, as the client has it, and how it is written.
     pub(crate) fn text_of(&self, number: usize) -> (Format, &str) {
-        for open in &self.open {
-            if open.number == Some(number) {
+        if let Some(index) = self.open_of(number) {
+            if let Some(open) = self.open.get(index) {
                 return (open.format, open.text.as_str());
             }
         }
@@ -485,18 +637,19 @@ impl<'r> Desk<'r> {
 
     /// Why the open text of the document with a number has no value, where an earlier one counts.
     pub(crate) fn fault_of(&self, number: usize) -> Option<&Fault> {
-        for open in &self.open {
-            if open.number == Some(number) {
-                return open.fault.as_ref();
-            }
-        }
-        None
+        let index = self.open_of(number)?;
+        self.open.get(index)?.fault.as_ref()
+    }
+
+    /// Whether the text of the document with a number, as the client has it, has a value, which is then the one that counts.
+    pub(crate) fn is_sound(&self, number: usize) -> bool {
+        self.fault_of(number).is_none() && self.workspace.value(number).is_some()
     }
 
     /// The URI of the document with a number, as the client has it.
     pub(crate) fn client_uri(&self, number: usize) -> Result<String, AllocError> {
-        for open in &self.open {
-            if open.number == Some(number) {
+        if let Some(index) = self.open_of(number) {
+            if let Some(open) = self.open.get(index) {
                 return open.uri.clone();
             }
         }
@@ -535,15 +688,40 @@ fn parsed_uri(alloc: Global, text: &str) -> Result<Option<Uri>, AllocError> {
 // The keys of which a schema or a description of an API has one at its root.
 const MARKS: [&str; 5] = ["$schema", "$id", "id", "openapi", "swagger"];
 
-// Whether a text of YAML says at its root what it is: a line of it begins with such a key and a colon, in quotes or without.
-fn is_marked(text: &str) -> bool {
-    for line in text.split('\n') {
-        if let Some((key, _)) = line.split_once(':') {
-            let key = key.trim_matches('"').trim_matches('\'');
-            if MARKS.contains(&key) {
-                return true;
-            }
+// Whether a text says at its root what it is, as `ref_files` has it: by a key there, or where it has no value by a line that begins with such a
+// key.
+fn is_marked(text: &DocumentText) -> bool {
+    match text.value() {
+        Some(value) => MARKS.iter().any(|mark| value.get(*mark).is_some()),
+        None => has_mark(text.text.as_str()),
+    }
+}
+
+// Whether a line begins with such a key, or with a brace and then such a key, which may be on a later line.
+fn has_mark(text: &str) -> bool {
+    text.split('\n').any(begins_with_mark)
+        || text.strip_prefix('{').is_some_and(begins_inside)
+        || text.split("\n{").skip(1).any(begins_inside)
+}
+
+// Whether what is after a brace begins with such a key.
+fn begins_inside(text: &str) -> bool {
+    begins_with_mark(text.trim_start())
+}
+
+// Whether a line begins with such a key and a colon, in quotes or without.
+fn begins_with_mark(line: &str) -> bool {
+    match line.split_once(':') {
+        Some((key, _)) => MARKS.contains(&unquoted(key.trim_end())),
+        None => false,
+    }
+}
+
+fn unquoted(key: &str) -> &str {
+    for quote in ['"', '\''] {
+        if let Some(rest) = key.strip_prefix(quote) {
+            return rest.strip_suffix(quote).unwrap_or(key);
         }
     }
-    false
+    key
 }

@@ -1,12 +1,16 @@
 //! What is wrong with the documents, in the protocol's words.
+ghost use Rattle.std.specs.Prelude.{◌≡◌};
+ghost use Rattle.ref_protocol.specs.Positions.{place_of};
+ghost use Rattle.ref_lsp.specs.Diagnostics as spec;
+
 use crate::desk::{Desk, OpenText};
 use crate::shown::Rules;
 use ref_files::{Fault, Format};
 use ref_findings::Problem;
 use ref_fixes::{Replacement, mended};
 use ref_messages::{Level, Message, Other};
-use ref_outline::spans::{offset_of, token_end};
-use ref_protocol::encoding::place_at;
+use ref_outline::spans::{offset_of, part_in, token_end};
+use ref_protocol::encoding::{Encoding, place_at};
 use ref_protocol::pieces::{Range, push_comma, push_location, push_number, push_range, push_text};
 use ref_workspace::{Describer, Finding, Known, Report, Silences};
 use std::alloc::{AllocError, Global};
@@ -51,7 +55,9 @@ impl Bounds {
     }
 
     /// Whether the document with a number is judged.
-    pub fn has(&self, number: usize) -> bool {
+    pub fn has(&self, number: usize) -> bool
+        ensures value { result ≡ spec.is_judged self.now.judged.items number }
+    {
         self.judged.get(number).copied().unwrap_or(true)
     }
 }
@@ -145,11 +151,18 @@ fn level_of(
     message: &Message<'_>,
 ) -> Result<Option<Level>, AllocError> {
     let path = desk.path_of(finding.source);
-    let level = rules.level(path, message.code, message.level)?;
-    if level.is_some() && silences.has(finding, message.line, message.code)? {
+    let own = if finding.problem.is_off() {
+        None
+    } else {
+        Some(message.level)
+    };
+    let Some(level) = rules.level(path, message.code, own)? else {
+        return Ok(None);
+    };
+    if silences.has(finding, message.line, message.code)? || !rules.shows(level) {
         return Ok(None);
     }
-    Ok(level)
+    Ok(Some(level))
 }
 
 impl Judged {
@@ -199,7 +212,7 @@ impl Judged {
         findings: &[Finding<'_>],
     ) -> Result<(), AllocError> {
         let alloc = desk.alloc();
-        let has_unchecked = rules.levels.has("unchecked-reference");
+        let has_unchecked = rules.has_unchecked();
         let there = bounds.there.as_slice();
         let mut silences = Silences::of(alloc, &desk.workspace)?;
         let mut describer = Describer::among(
@@ -212,7 +225,7 @@ impl Judged {
         for place in 0..describer.len() {
             self.add_at(desk, rules, &mut silences, &mut describer, place)?;
         }
-        Ok(())
+        self.add_silences(desk, rules, bounds, &silences)
     }
 
     // Adds what is found at a place of the list, unless it isn't shown, or is in a text that has been left.
@@ -264,9 +277,11 @@ impl Judged {
             Format::Json => "not-json",
             Format::Yaml => "not-yaml",
         };
-        match rules.level(desk.path_of(number), code, Level::Error)? {
-            Some(level) => self.add_fault(desk, number, (code, level), fault),
-            None => Ok(()),
+        match rules.level(desk.path_of(number), code, Some(Level::Error))? {
+            Some(level) if rules.shows(level) => {
+                self.add_fault(desk, number, (code, level), fault)
+            }
+            _ => Ok(()),
         }
     }
 
@@ -280,7 +295,7 @@ impl Judged {
         let uri = desk.client_uri(finding.source)?;
         let (format, text) = desk.text_of(finding.source);
         let start = offset_of(text, message.line, message.column);
-        let end = token_end(text, start);
+        let end = end_at(alloc, format, text, start)?;
         let range = range_of(desk, text, start, end);
         let said = said(alloc, message)?;
         let mut out = String::new(alloc);
@@ -349,8 +364,8 @@ impl Judged {
         self.push(alloc, number, uri, out.as_str())
     }
 
-    // Adds a diagnostic to the list of the document with a number.
-    fn push(
+    /// Adds a diagnostic to the list of the document with a number.
+    pub(crate) fn push(
         &mut self,
         alloc: Global,
         number: usize,
@@ -373,15 +388,74 @@ impl Judged {
     }
 }
 
-/// The range between two offsets.
+/// The range between two offsets of a text, as the client counts.
 pub fn range_of(desk: &Desk<'_>, text: &str, start: usize, end: usize) -> Range {
+    range_in(desk.encoding, text, start, end)
+}
+
+// The range between two offsets of a text.
+fn range_in(encoding: Encoding, text: &str, start: usize, end: usize) -> Range
+    ensures { result
+        ≡ (place_of encoding 0 0 start text.now, place_of encoding 0 0 end text.now) }
+{
     (
-        place_at(text, start, desk.encoding),
-        place_at(text, end, desk.encoding),
+        place_at(text, start, encoding),
+        place_at(text, end, encoding),
     )
 }
 
-fn severity_of(level: Level) -> usize {
+/// The offset after the key or the scalar that begins at an offset, on its line. In a block of YAML no comma and no bracket ends one without quotes, so
+/// that the text is read where one comes after it.
+pub(crate) fn end_at(
+    alloc: Global,
+    format: Format,
+    text: &str,
+    start: usize,
+) -> Result<usize, AllocError> {
+    let end = token_end(text, start);
+    let rest = text.get(end..).unwrap_or("");
+    let token = text.get(start..end).unwrap_or("");
+    if format == Format::Json || is_quoted(token.as_bytes()) || !may_go_on(rest.as_bytes()) {
+        return Ok(end);
+    }
+    match part_in(alloc, format, text, start)? {
+        Some(part) if part.start == start && end < part.end => {
+            let token = text.get(start..part.end).unwrap_or("");
+            let line = token.split_once('\n').map_or(token, |(line, _)| line);
+            Ok(start.saturating_add(line.trim_end().len()))
+        }
+        _ => Ok(end),
+    }
+}
+
+// Whether bytes begin with a quote or a bracket that opens.
+fn is_quoted(bytes: &[u8]) -> bool
+    ensures { result ≡ spec.is_quoted bytes.now }
+{
+    match bytes {
+        [] => false,
+        [first, ..] => *first == b'"' || *first == b'\'' || *first == b'[' || *first == b'{',
+    }
+}
+
+// Whether what comes after a scalar may belong to it in a block of YAML: a comma or a bracket that closes, after blanks.
+fn may_go_on(bytes: &[u8]) -> bool
+    ensures { result ≡ spec.may_go_on bytes.now }
+{
+    let mut rest = bytes;
+    'bytes: while let [byte, more @ ..] = rest {
+        if *byte != b' ' && *byte != b'\t' {
+            return *byte == b',' || *byte == b']' || *byte == b'}';
+        }
+        rest = more;
+    }
+    false
+}
+
+/// The number of a severity.
+pub(crate) fn severity_of(level: Level) -> usize
+    ensures value { result ≡ spec.severity_of level }
+{
     match level {
         Level::Error => 1,
         Level::Warning => 2,
@@ -400,7 +474,12 @@ fn push_head(
     push_number(out, ",\"severity\":", severity_of(message.level))?;
     push_text(alloc, out, ",\"code\":", message.code)?;
     push_text(alloc, out, ",\"source\":\"patchsard\",\"message\":", said)?;
-    if message.code.starts_with("unused") {
+    push_marks(out, message.code)
+}
+
+/// Adds that what a finding of a rule is on is not needed, where that is so.
+pub(crate) fn push_marks(out: &mut String, code: &str) -> Result<(), AllocError> {
+    if code.starts_with("unused") {
         out.push_str(",\"tags\":[1]")?;
     }
     Ok(())
@@ -433,9 +512,10 @@ fn push_first(desk: &Desk<'_>, out: &mut String, first: &Other) -> Result<(), Al
     else {
         return Ok(());
     };
-    let (_, text) = desk.text_of(number);
+    let (format, text) = desk.text_of(number);
     let start = offset_of(text, first.line, first.column);
-    let range = range_of(desk, text, start, token_end(text, start));
+    let end = end_at(alloc, format, text, start)?;
+    let range = range_of(desk, text, start, end);
     out.push_str(",\"relatedInformation\":[{\"location\":")?;
     push_location(alloc, out, desk.client_uri(number)?.as_str(), range)?;
     out.push_str(",\"message\":\"first\"}]")

@@ -3,6 +3,8 @@ use crate::asked::{Asked, asked_place, mapped, target_of};
 use crate::definition::{followed, number_of};
 use crate::desk::Desk;
 use crate::judged::range_of;
+use crate::keys;
+use ref_files::{Format, file_uri};
 use ref_outline::Outline;
 use ref_protocol::pieces::{push_comma, push_location};
 use ref_protocol::refusal::Refusal;
@@ -40,8 +42,16 @@ pub fn references(desk: &Desk<'_>, view: &View<'_, '_>, params: &Value) -> Resul
     Ok(out)
 }
 
-// The keys whose text names the object that has it.
-const NAMES: [&str; 5] = ["$id", "id", "$anchor", "$dynamicAnchor", "$recursiveAnchor"];
+// Whether the value that is asked about names the object that has it.
+fn is_name(desk: &Desk<'_>, asked: &Asked) -> bool {
+    let Some(root) = desk.workspace.value(asked.number) else {
+        return false;
+    };
+    match (root.pointer(asked.pointer.as_str()), asked.key()) {
+        (Some(value), Some(key)) => keys::is_name(key, value),
+        _ => false,
+    }
+}
 
 // The place whose references are asked for.
 fn place_of(desk: &Desk<'_>, view: &View<'_, '_>, asked: Asked) -> Result<Place, AllocError> {
@@ -60,7 +70,7 @@ fn place_of(desk: &Desk<'_>, view: &View<'_, '_>, asked: Asked) -> Result<Place,
             }
         }
     }
-    let is_name = NAMES.iter().any(|name| asked.is_under(*name));
+    let is_name = is_name(desk, &asked);
     let Asked {
         number,
         pointer,
@@ -82,42 +92,66 @@ fn push_all(
     place: &Place,
     out: &mut String,
 ) -> Result<(), AllocError> {
-    for number in 0..desk.workspace.documents().len() {
-        push_in(desk, view, place, number, out)?;
+    for number in 0..desk.workspace.len() {
+        let pointers = pointers_in(desk, view, place, number)?;
+        if !pointers.is_empty() {
+            push_in(desk, number, pointers.as_slice(), out)?;
+        }
     }
     Ok(())
 }
 
-// Adds those of a document.
-fn push_in(
+// The pointers to those of a document.
+fn pointers_in(
     desk: &Desk<'_>,
     view: &View<'_, '_>,
     place: &Place,
     number: usize,
-    out: &mut String,
-) -> Result<(), AllocError> {
+) -> Result<Vec<String>, AllocError> {
     let alloc = desk.alloc();
-    let Some(root) = desk.workspace.value(number) else {
-        return Ok(());
-    };
     let mut pointers = Vec::new(alloc);
+    let Some(root) = desk.workspace.value(number) else {
+        return Ok(pointers);
+    };
     for referring in references_in(alloc, root)? {
         if leads_to(desk, view, &referring, number, place)? {
             let Referring { pointer, .. } = referring;
             pointers.push(pointer)?;
         }
     }
-    if pointers.is_empty() {
-        return Ok(());
+    Ok(pointers)
+}
+
+// Adds what is at pointers of a document.
+fn push_in(
+    desk: &Desk<'_>,
+    number: usize,
+    pointers: &[String],
+    out: &mut String,
+) -> Result<(), AllocError> {
+    if let Some(file) = desk.mapped_file(number)? {
+        let uri = file_uri(desk.alloc(), file.path.as_str())?;
+        let text = (file.format, file.text.as_str());
+        return push_places(desk, uri.as_str(), text, pointers, out);
     }
-    let (format, text) = desk.text_of(number);
-    let outline = Outline::of(alloc, format, text)?;
     let uri = desk.client_uri(number)?;
-    for pointer in &pointers {
+    push_places(desk, uri.as_str(), desk.text_of(number), pointers, out)
+}
+
+fn push_places(
+    desk: &Desk<'_>,
+    uri: &str,
+    (format, text): (Format, &str),
+    pointers: &[String],
+    out: &mut String,
+) -> Result<(), AllocError> {
+    let alloc = desk.alloc();
+    let outline = Outline::of(alloc, format, text)?;
+    for pointer in pointers {
         if let Some(node) = outline.at(pointer.as_str()) {
             push_comma(out)?;
             let range = range_of(desk, text, node.start, node.end);
-            push_location(alloc, out, uri.as_str(), range)?;
+            push_location(alloc, out, uri, range)?;
         }
     }
     Ok(())

@@ -1,5 +1,8 @@
 //! The loop that reads frames and answers.
+ghost use Rattle.std.specs.Prelude.{◌≡◌};
 ghost use Rattle.ref_protocol.specs.Wires.{HasAtMostOne};
+ghost use Rattle.serde_json.specs.View.{view};
+ghost use Rattle.ref_lsp.specs.Serving as spec;
 
 use crate::actions::actions;
 use crate::asked::asked_document;
@@ -7,7 +10,7 @@ use crate::completion::completion;
 use crate::definition::definition;
 use crate::desk::Desk;
 use crate::hover::hover;
-use crate::life::{WATCH, initialize};
+use crate::life::{initialize, renewal, watch};
 use crate::links::links;
 use crate::references::references;
 use crate::session::Session;
@@ -18,6 +21,7 @@ use ref_error::Error;
 use ref_protocol::call::{Kind, kind_of};
 use ref_protocol::feed::More;
 use ref_protocol::methods::{Due, Method, Phase, due_for};
+use ref_protocol::pieces::push_text;
 use ref_protocol::refusal::Refusal;
 use ref_protocol::sending::Unsent;
 use ref_protocol::wire::{Heard, Wire};
@@ -89,6 +93,7 @@ pub fn serve<R: Source + Drop, W: Sink + Drop>(
 ) -> Ending
     ensures at_most_one { HasAtMostOne wire.new }
 {
+    desk.tell_beside(rules.tells_beside());
     let mut shown = Shown {
         told: Told::new(desk.alloc()),
         rules,
@@ -138,7 +143,8 @@ fn after_move<R: Source + Drop, W: Sink + Drop>(
     turn(desk, None, None, shown, wire)
 }
 
-// Answers a request, which may need the registry of the documents, and goes on with that until something changes.
+// Answers a request, which may need the registry of the documents, and goes on with that until something changes. What changed before it is taken
+// in (`settle`), which nothing of the request decides; then the desk is lent to be read alone.
 fn asked<R: Source + Drop, W: Sink + Drop>(
     desk: &mut Desk<'_>,
     shown: &mut Shown,
@@ -154,13 +160,23 @@ fn asked<R: Source + Drop, W: Sink + Drop>(
     }
 }
 
-// Whether a registry that is there for the document with a number, or for all, serves what is asked of one, or of all. Where the client's text has no value, what is
-// asked for depends on the place.
-fn serves(desk: &Desk<'_>, served: Option<usize>, asked: Option<usize>) -> bool {
+// Whether the client's text of the document with a number has a value.
+fn has_value(desk: &Desk<'_>, number: Option<usize>) -> bool {
+    match number {
+        Some(number) => desk.is_sound(number),
+        None => true,
+    }
+}
+
+// Whether a registry that is there for the document with a number, or for all, serves what is asked of one, or of all. Where the client's text
+// of the document has no value, what is asked for depends on the place.
+fn serves(served: Option<usize>, asked: Option<usize>, has_value: bool) -> bool
+    ensures { result ≡ spec.serves served asked has_value }
+{
     match (served, asked) {
         (None, _) => true,
-        (Some(number), Some(asked)) => number == asked && desk.fault_of(number).is_none(),
-        _ => false,
+        (Some(number), Some(asked)) => number == asked && has_value,
+        (Some(_), None) => false,
     }
 }
 
@@ -183,7 +199,10 @@ fn viewing<R: Source + Drop, W: Sink + Drop>(
     let alloc = desk.alloc();
     let asked = asked_of(desk, &call)?;
     let there = match asked {
-        Some(number) => desk.looked_at(number, call.message.get("params"))?,
+        Some(number) => {
+            let may_be_led = shown.kept.may_be_led();
+            desk.looked_at(number, call.message.get("params"), may_be_led)?
+        }
         None => Vec::new(alloc),
     };
     let trees = desk.workspace.mended_among(alloc, there.as_slice())?;
@@ -264,7 +283,14 @@ fn waited<R: Source + Drop, W: Sink + Drop>(
 }
 
 fn ended(phase: Phase) -> Ending {
-    Ending::Exit(phase == Phase::ShutDown)
+    Ending::Exit(was_shut_down(phase))
+}
+
+// Whether a server was shut down before it ends.
+fn was_shut_down(phase: Phase) -> bool
+    ensures { result ≡ spec.was_shut_down phase }
+{
+    phase == Phase::ShutDown
 }
 
 // Takes the content of a frame: answers it, or returns what is to be done with it.
@@ -283,6 +309,7 @@ fn taken<R: Source + Drop, W: Sink + Drop>(
     };
     match kind_of(&message) {
         Kind::Call(method) => {
+            let method = method_of(&message, method);
             let due = due_for(shown.told.phase, method, wire.is_request());
             match due {
                 Due::Pass => Ok(None),
@@ -304,7 +331,28 @@ fn taken<R: Source + Drop, W: Sink + Drop>(
     }
 }
 
-fn needs_view(method: Method) -> bool {
+// The method that a call is served by: diagnostics of all documents are served as those of one.
+fn method_of(message: &Value, method: Option<Method>) -> Option<Method>
+    ensures { result ≡ spec.method_of (view message.now) method }
+{
+    if is_of_all(message) {
+        Some(Method::Diagnostic)
+    } else {
+        method
+    }
+}
+
+// Whether a call is of `workspace/diagnostic`.
+fn is_of_all(message: &Value) -> bool
+    ensures { result ≡ spec.is_of_all (view message.now) }
+{
+    message.get("method").and_then(Value::as_str) == Some("workspace/diagnostic")
+}
+
+// Whether a request is answered by the registry of documents.
+fn needs_view(method: Method) -> bool
+    ensures { result ≡ spec.needs_view method }
+{
     matches!(
         method,
         Method::Definition
@@ -315,7 +363,10 @@ fn needs_view(method: Method) -> bool {
     )
 }
 
-fn moves(method: Method) -> bool {
+// Whether a call changes something: no request but `initialize` does.
+fn moves(method: Method) -> bool
+    ensures { result ≡ spec.moves method }
+{
     matches!(
         method,
         Method::Initialize
@@ -371,7 +422,7 @@ fn still<R: Source + Drop, W: Sink + Drop>(
     }
     let asked = asked_of(desk, &call)?;
     match view {
-        Some(view) if serves(desk, served, asked) => {
+        Some(view) if serves(served, asked, has_value(desk, served)) => {
             viewed(desk, view, wire, call)?;
             Ok(None)
         }
@@ -390,6 +441,7 @@ fn viewed<R: Source + Drop, W: Sink + Drop>(
     wire.answer(desk.alloc(), outcome)
 }
 
+// What a request answers by the registry. The desk is lent to be read alone (`&Desk`), and what was told isn't lent at all: so no request changes them.
 fn by_view(desk: &Desk<'_>, view: &View<'_, '_>, call: &Call) -> Result<String, Refusal> {
     let Some(params) = call.message.get("params") else {
         return Err(Refusal::NoParameters);
@@ -403,7 +455,8 @@ fn by_view(desk: &Desk<'_>, view: &View<'_, '_>, call: &Call) -> Result<String, 
     }
 }
 
-// Answers a request that needs no registry.
+// Answers a request that needs no registry. Where it is about what is wrong, that is found out first, as it is where nothing is left to read: the
+// documents stay as they are (`&Desk`).
 fn judged<R: Source + Drop, W: Sink + Drop>(
     desk: &Desk<'_>,
     shown: &mut Shown,
@@ -417,12 +470,14 @@ fn judged<R: Source + Drop, W: Sink + Drop>(
     wire.answer(desk.alloc(), outcome)
 }
 
+// What a request answers by the texts and by what was told, which are lent to be read alone: so no request changes them.
 fn by_texts(desk: &Desk<'_>, told: &Told, call: &Call) -> Result<String, Refusal> {
     let Some(params) = call.message.get("params") else {
         return Err(Refusal::NoParameters);
     };
     match call.method {
         Method::CodeAction => actions(desk, told, params),
+        Method::Diagnostic if is_of_all(&call.message) => Ok(all_pulled(desk, told)?),
         Method::Diagnostic => pulled(desk, told, params),
         Method::DocumentSymbol => symbols(desk, params),
         _ => workspace_symbols(desk, params),
@@ -442,6 +497,24 @@ fn pulled(desk: &Desk<'_>, told: &Told, params: &Value) -> Result<String, Refusa
     Ok(out)
 }
 
+// `workspace/diagnostic`: a whole report of each document that is asked about.
+fn all_pulled(desk: &Desk<'_>, told: &Told) -> Result<String, AllocError> {
+    let alloc = desk.alloc();
+    let mut out = String::from_str(alloc, "{\"items\":[")?;
+    for number in 0..desk.workspace.asked() {
+        if 0 < number {
+            out.push(',')?;
+        }
+        let uri = desk.client_uri(number)?;
+        push_text(alloc, &mut out, "{\"uri\":", uri.as_str())?;
+        out.push_str(",\"version\":null,\"kind\":\"full\",\"items\":")?;
+        out.push_str(told.list(alloc, uri.as_str())?.as_str())?;
+        out.push('}')?;
+    }
+    out.push_str("]}")?;
+    Ok(out)
+}
+
 // Does what a call says that changes something.
 fn moved<R: Source + Drop, W: Sink + Drop>(
     desk: &mut Desk<'_>,
@@ -453,7 +526,7 @@ fn moved<R: Source + Drop, W: Sink + Drop>(
         Method::Initialize => begun(desk, told, wire, call),
         Method::Initialized => {
             if told.watches {
-                wire.ask(desk.alloc(), WATCH)?;
+                wire.ask(desk.alloc(), watch(desk)?.as_str())?;
             }
             Ok(())
         }
@@ -462,9 +535,31 @@ fn moved<R: Source + Drop, W: Sink + Drop>(
             if desk.is_moved || desk.is_stale {
                 told.is_fresh = false;
             }
-            Ok(())
+            renew(desk, told, wire, call.method)
         }
     }
+}
+
+// Asks a client that asks for diagnostics to do that again, where others than those of its own changes may have come.
+fn renew<R: Source + Drop, W: Sink + Drop>(
+    desk: &Desk<'_>,
+    told: &mut Told,
+    wire: &mut Wire<R, W>,
+    method: Method,
+) -> Result<(), Unsent> {
+    let is_beyond = matches!(
+        method,
+        Method::DidSave | Method::DidChangeFiles | Method::DidChangeFolders
+    );
+    let has_changed = desk.is_moved || desk.is_stale || desk.is_reset;
+    let Some(number) = told.renewals else {
+        return Ok(());
+    };
+    if is_beyond && has_changed {
+        told.renewals = Some(number.saturating_add(1));
+        wire.ask(desk.alloc(), renewal(desk.alloc(), number)?.as_str())?;
+    }
+    Ok(())
 }
 
 // `initialize`.

@@ -10,6 +10,7 @@ use std::mem::swap;
 pub struct Session {
     told: Told,
     encoding: Encoding,
+    is_plain: bool,
     folders: Vec<String>,
     open: Vec<OpenText>,
 }
@@ -20,6 +21,7 @@ impl Session {
         Session {
             told: Told::new(alloc),
             encoding: Encoding::Utf16,
+            is_plain: false,
             folders: Vec::new(alloc),
             open: Vec::new(alloc),
         }
@@ -37,6 +39,7 @@ impl Session {
     pub(crate) fn exchange(&mut self, desk: &mut Desk<'_>, told: &mut Told) {
         swap(&mut self.told, told);
         swap(&mut self.encoding, &mut desk.encoding);
+        swap(&mut self.is_plain, &mut desk.is_plain);
         swap(&mut self.folders, &mut desk.folders);
         swap(&mut self.open, &mut desk.open);
         told.is_fresh = false;

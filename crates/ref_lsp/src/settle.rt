@@ -1,11 +1,12 @@
 //! What came, went or changed is taken in: what the documents want from maps, and files of YAML that they refer to.
 use crate::desk::Desk;
+use crate::mapped::{Mapped, MappedFile, absolute};
 use ref_command_line::say_failures;
-use ref_files::{BrokenFile, Format};
+use ref_files::BrokenFile;
 use ref_findings::Problem;
-use ref_workspace::Document;
-use std::alloc::AllocError;
-use std::collections::BTreeSet;
+use ref_workspace::{Document, Workspace};
+use std::alloc::{AllocError, Global};
+use std::collections::{BTreeMap, BTreeSet};
 
 impl Desk<'_> {
     /// Takes in what came, went or changed.
@@ -14,53 +15,126 @@ impl Desk<'_> {
             self.reopen()?;
         }
         if self.is_moved {
-            self.retrieve()?;
-            self.adopt()?;
-            self.sum_up()?;
+            self.take_in()?;
+            if self.release()? {
+                self.take_in()?;
+            }
         }
         self.is_stale = false;
         self.is_moved = false;
         Ok(())
     }
 
-    // Retrieves from maps what the documents want.
-    fn retrieve(&mut self) -> Result<(), AllocError> {
-        if self.maps.is_empty() {
+    // Takes in what the documents want from maps, and the files of YAML that they refer to.
+    fn take_in(&mut self) -> Result<(), AllocError> {
+        self.retrieve()?;
+        self.adopt()?;
+        self.sum_up()
+    }
+
+    // Passes those files of YAML over whose roots don't say any more what they are, and which nothing refers to any more. Whether there are any.
+    fn release(&mut self) -> Result<bool, AllocError> {
+        let strays = self.strays()?;
+        let is_any = !strays.is_empty();
+        for number in strays {
+            self.pass_over(number)?;
+        }
+        Ok(is_any)
+    }
+
+    // The numbers of those documents, the greatest first: none where more may be referred to than is noted. What one of them refers to doesn't
+    // count. One step for each reference, where one of the documents may be such.
+    fn strays(&self) -> Result<Vec<usize>, AllocError> {
+        let alloc = self.alloc();
+        let mut numbers = Vec::new(alloc);
+        if self.summaries.list.iter().any(|summary| summary.is_open) {
+            return Ok(numbers);
+        }
+        let mut strays = BTreeMap::new(alloc);
+        let mut waiting = Vec::new(alloc);
+        for number in 0..self.workspace.documents().len() {
+            if self.is_unmarked(number) {
+                strays.insert(self.uri_text(number)?, number)?;
+            }
+        }
+        if strays.is_empty() {
+            return Ok(numbers);
+        }
+        for number in 0..self.workspace.documents().len() {
+            if !self.is_unmarked(number) {
+                waiting.push(number)?;
+            }
+        }
+        for _ in 0..u64::MAX {
+            if strays.is_empty() {
+                break;
+            }
+            let Some(number) = waiting.pop() else {
+                break;
+            };
+            self.keep_wanted(number, &mut strays, &mut waiting)?;
+        }
+        for (_, number) in strays {
+            numbers.push(number)?;
+        }
+        numbers.sort()?;
+        numbers.reverse();
+        Ok(numbers)
+    }
+
+    // The URI of the document with a number.
+    fn uri_text(&self, number: usize) -> Result<String, AllocError> {
+        match self.workspace.uri(number) {
+            Some(uri) => String::from_str(self.alloc(), uri.as_str()),
+            None => Ok(String::new(self.alloc())),
+        }
+    }
+
+    // Takes those documents that the one with a number may refer to from the strays, and adds them to those whose references are looked at.
+    fn keep_wanted(
+        &self,
+        number: usize,
+        strays: &mut BTreeMap<String, usize>,
+        waiting: &mut Vec<usize>,
+    ) -> Result<(), AllocError> {
+        let Some(summary) = self.summaries.list.get(number) else {
             return Ok(());
-        }
-        self.summaries.note_all();
-        self.workspace.retrieve(self.rt.alloc(), &self.maps)?;
-        say_failures(self.rt, &self.maps.take_failures());
-        for number in self.workspace.opened()..self.workspace.documents().len() {
-            self.name(number)?;
-        }
-        for file in self.maps.take_broken() {
-            let BrokenFile { uri, path, text } = file;
-            self.workspace.add_retrieved(Document {
-                name: path,
-                uri,
-                text,
-            })?;
+        };
+        for uri in &summary.refers {
+            if let Some(wanted) = strays.remove(uri.as_str()) {
+                waiting.push(wanted)?;
+            }
         }
         Ok(())
     }
 
-    // Gives a retrieved document the name and the text of its file.
-    fn name(&mut self, number: usize) -> Result<(), AllocError> {
-        let alloc = self.alloc();
-        let Some(document) = self.workspace.documents().get(number) else {
+    // Retrieves from maps what the documents want.
+    pub(crate) fn retrieve(&mut self) -> Result<(), AllocError> {
+        if self.maps.is_empty() {
             return Ok(());
-        };
-        let uri = document.uri.as_str();
-        let Some(path) = self.maps.path_of(alloc, uri)? else {
-            return Ok(());
-        };
-        let text = match self.maps.text(alloc, uri)? {
-            Some(text) => text,
-            None => String::new(alloc),
-        };
-        let format = Format::of_path(path.as_str());
-        self.workspace.set_file(number, path, format, text);
+        }
+        self.summaries.note_all();
+        self.retrieve_mapped()?;
+        say_failures(self.rt, &self.maps.take_failures());
+        for file in self.maps.take_broken() {
+            let BrokenFile { uri, path, text } = file;
+            let name = absolute(self.rt, path)?;
+            self.workspace.add_retrieved(Document { name, uri, text })?;
+        }
+        self.place_retrieved()
+    }
+
+    // Retrieves them, and gives each that has a text of its own the name and the text of its file.
+    fn retrieve_mapped(&mut self) -> Result<(), AllocError> {
+        let alloc = self.rt.alloc();
+        let mapped = Mapped::new(self.rt, &self.maps, self.open.as_slice())?;
+        self.workspace.retrieve(alloc, &mapped)?;
+        for number in self.workspace.opened()..self.workspace.documents().len() {
+            if let Some(file) = file_of(alloc, &self.workspace, &mapped, number)? {
+                let MappedFile { path, format, text } = file;
+                self.workspace.set_file(number, path, format, text);
+            }
+        }
         Ok(())
     }
 
@@ -129,5 +203,18 @@ impl Desk<'_> {
             }
         }
         Ok(wanted)
+    }
+}
+
+// The file of the document with a number, which was retrieved.
+fn file_of(
+    alloc: Global,
+    workspace: &Workspace,
+    mapped: &Mapped<'_, '_, '_>,
+    number: usize,
+) -> Result<Option<MappedFile>, AllocError> {
+    match workspace.uri(number) {
+        Some(uri) => mapped.file(alloc, uri.as_str()),
+        None => Ok(None),
     }
 }

@@ -1,6 +1,10 @@
 //! What a client was told.
+ghost use Rattle.std.specs.Prelude.{◌≡◌, IfOk, option_map, string_bytes};
+ghost use Rattle.ref_lsp.specs.Diagnostics as spec;
+
 use crate::desk::Desk;
 use crate::judged::{Bounds, Fix, Judged, Note, judge};
+use crate::sharers::{add_altered, add_sharers};
 use ref_levels::{Levels, is_listed};
 use ref_messages::Level;
 use ref_protocol::methods::Phase;
@@ -26,6 +30,8 @@ pub struct Told {
     pub pulls: bool,
     /// Whether it is to be asked to watch files.
     pub watches: bool,
+    /// How often it was asked to ask for diagnostics again: nothing where it isn't to be.
+    pub renewals: Option<usize>,
     // The lists of diagnostics that were sent, by URIs.
     lists: BTreeMap<String, String>,
     /// What mends something.
@@ -59,6 +65,40 @@ pub struct Kept {
 
 // How many searches for what may be meant the `lint` of all documents surely ends: each takes at most a fiftieth of what all may take.
 const MOST_SEARCHES: usize = 48;
+
+// How many searches the judgement on a document took, by what was noted before, or now where it is judged.
+fn searches_at(judged: Option<(&Bounds, &[Note])>, number: usize, before: &Note) -> usize
+    ensures { result ≡ spec.searches_at
+        (option_map (λ j. (j.0.now.judged.items, j.1.now)) judged.entry) number before.now }
+{
+    match judged {
+        Some((bounds, notes)) if bounds.has(number) => match notes.get(number) {
+            Some(note) => note.searches,
+            None => 0,
+        },
+        _ => before.searches,
+    }
+}
+
+// Whether all searches end, with those of documents that were judged in place of those before.
+fn is_bounded(judged: Option<(&Bounds, &[Note])>, notes: &[Note]) -> bool
+    ensures { result ≡ spec.is_bounded
+        (option_map (λ j. (j.0.now.judged.items, j.1.now)) judged.entry) notes.now }
+{
+    let mut left = MOST_SEARCHES;
+    let mut rest = notes;
+    let mut number: usize = 0;
+    'notes: while let [note, more @ ..] = rest {
+        let searches = searches_at(judged, number, note);
+        if left < searches {
+            return false;
+        }
+        left -= searches;
+        number += 1;
+        rest = more;
+    }
+    true
+}
 
 impl Kept {
     /// Nothing.
@@ -95,6 +135,17 @@ impl Kept {
         }
     }
 
+    /// Whether references may lead to places that no keyword leads to, or there may be descriptions: so it was when all was judged last, or nothing was.
+    pub fn may_be_led(&self) -> bool
+        ensures value { result
+            ≡ spec.may_be_led (option_map (λ known. known.is_led) self.now.known) }
+    {
+        match &self.known {
+            Some(known) => known.is_led,
+            None => true,
+        }
+    }
+
     // By the numbers of the documents, whether one refers to a document that isn't there.
     fn wanting(&self, alloc: Global) -> Result<Vec<bool>, AllocError> {
         let mut wanting = Vec::with_capacity(alloc, self.notes.len())?;
@@ -115,8 +166,10 @@ impl Kept {
         let wanting = self.wanting(alloc)?;
         let before = self.summaries.as_slice();
         let mut judged = altered(alloc, before, after, wanting.as_slice())?;
+        add_altered(alloc, before, after, &mut judged)?;
         let _ = unused.note_moved(&known.unused, &mut judged);
-        let there = around(alloc, after, judged.as_slice())?;
+        let mut there = around(alloc, after, judged.as_slice())?;
+        add_sharers(alloc, after, &mut there)?;
         Ok(Some(Bounds {
             judged,
             there,
@@ -159,18 +212,16 @@ impl Kept {
     }
 
     // Whether all searches end, with those of documents that were judged in place of those before.
-    fn is_bounded(&self, judged: Option<(&Bounds, &Judged)>) -> bool {
-        let mut searches: usize = 0;
-        for (number, note) in self.notes.iter().enumerate() {
-            let mut count = note.searches;
-            if let Some((bounds, judged)) = judged {
-                if bounds.has(number) {
-                    count = judged.notes.get(number).map_or(0, |note| note.searches);
-                }
-            }
-            searches = searches.saturating_add(count);
-        }
-        searches <= MOST_SEARCHES
+    fn is_bounded(&self, judged: Option<(&Bounds, &Judged)>) -> bool
+        ensures { result ≡ spec.is_bounded
+            (option_map (λ j. (j.0.now.judged.items, j.1.now.notes.items)) judged.entry)
+            self.now.notes.items }
+    {
+        let judged = match judged {
+            Some((bounds, judged)) => Some((bounds, judged.notes.as_slice())),
+            None => None,
+        };
+        is_bounded(judged, self.notes.as_slice())
     }
 
     // Keeps by which summaries documents were judged.
@@ -193,17 +244,32 @@ pub struct Rules {
 }
 
 impl Rules {
-    /// The level of a finding of a rule in the file at an absolute path: nothing where it isn't shown. `own` is the rule's own.
+    /// The level of a finding of a rule in the file at an absolute path: nothing where it is off there. `own` is the rule's own: nothing where it is off by itself.
     pub fn level(
         &mut self,
         path: &str,
         code: &str,
-        own: Level,
+        own: Option<Level>,
     ) -> Result<Option<Level>, AllocError> {
-        match self.levels.level(path, code, own)? {
-            Some(level) if is_listed(level, self.least) => Ok(Some(level)),
-            _ => Ok(None),
+        match own {
+            Some(own) => self.levels.level(path, code, own),
+            None => self.levels.level_set(path, code),
         }
+    }
+
+    /// Whether findings of a level are shown.
+    pub(crate) fn shows(&self, level: Level) -> bool {
+        is_listed(level, self.least)
+    }
+
+    /// Whether it is told which references weren't checked: its rule is set.
+    pub(crate) fn has_unchecked(&self) -> bool {
+        self.levels.has("unchecked-reference")
+    }
+
+    /// Whether it is told what is beside references of descriptions: one of its rules is set.
+    pub(crate) fn tells_beside(&self) -> bool {
+        self.levels.has("ignored-beside-ref") || self.levels.has("annotation-beside-ref")
     }
 }
 
@@ -214,6 +280,7 @@ impl Told {
             phase: Phase::New,
             pulls: false,
             watches: false,
+            renewals: None,
             lists: BTreeMap::new(alloc),
             fixes: Vec::new(alloc),
             is_fresh: false,
@@ -427,7 +494,9 @@ fn send_list<R: Source + Drop, W: Sink + Drop>(
 }
 
 // The parameters that say a list of diagnostics of a document. Its end is left out in the list.
-fn params_of(alloc: Global, uri: &str, list: &str) -> Result<String, AllocError> {
+fn params_of(alloc: Global, uri: &str, list: &str) -> Result<String, AllocError>
+    ensures { IfOk result (λ params. string_bytes params ≡ spec.params_of uri.now list.now) }
+{
     let mut out = String::new(alloc);
     push_text(alloc, &mut out, "{\"uri\":", uri)?;
     out.push_str(",\"diagnostics\":")?;

@@ -1,7 +1,9 @@
 //! What the documents of a desk have to do with one another.
 use crate::asked::texts_at;
+use crate::completion::push_below;
 use crate::desk::Desk;
-use ref_workspace::near::around_one;
+use crate::sharers::add_sharers;
+use ref_workspace::near::{around_one, connected};
 use ref_workspace::{Summary, Workspace};
 use serde_json::Value;
 use std::alloc::{AllocError, Global};
@@ -130,25 +132,121 @@ impl Desk<'_> {
     }
 
     /// The documents that are looked at for what is asked of the one with a number, by flags: none has one where all are. Where the text that
-    /// the client has isn't the one that is judged, what is at the place that is asked about counts too.
+    /// the client has isn't the one that is judged, what is at the place that is asked about counts too. `may_be_led` is whether references may lead to places
+    /// that no keyword leads to, or there may be descriptions.
     pub(crate) fn looked_at(
         &self,
         number: usize,
         params: Option<&Value>,
+        may_be_led: bool,
     ) -> Result<Vec<bool>, AllocError> {
         let alloc = self.alloc();
         if !self.summaries.are_complete {
             return Ok(Vec::new(alloc));
         }
         let texts = match params {
-            Some(params) if self.fault_of(number).is_some() => texts_at(self, params)?,
+            Some(params) if !self.is_sound(number) => texts_at(self, params)?,
             _ => Vec::new(alloc),
         };
-        around_one(
-            alloc,
-            self.summaries.list.as_slice(),
-            number,
-            texts.as_slice(),
-        )
+        let list = self.summaries.list.as_slice();
+        let mut flags = around_one(alloc, list, number, texts.as_slice())?;
+        add_sharers(alloc, list, &mut flags)?;
+        if may_be_led {
+            return self.with_leading(number, flags);
+        }
+        Ok(flags)
     }
+
+    // The same documents, and where one of them may have a base that depends on what leads into it, or may be a part of a description, those that a way of
+    // references connects with the one with a number: all, where that isn't known in a few passes.
+    fn with_leading(&self, number: usize, flags: Vec<bool>) -> Result<Vec<bool>, AllocError> {
+        let list = self.summaries.list.as_slice();
+        let has_bases = self.has_inner_bases(flags.as_slice())?;
+        if !has_bases && !list.iter().any(|summary| summary.is_description) {
+            return Ok(flags);
+        }
+        let Some(beyond) = self.connected_with(number)? else {
+            return Ok(Vec::new(self.alloc()));
+        };
+        if !has_bases && !has_description(list, beyond.as_slice()) {
+            return Ok(flags);
+        }
+        let mut flags = flags;
+        for (flag, is_in) in flags.iter_mut().zip(beyond.iter()) {
+            *flag = *flag || *is_in;
+        }
+        Ok(flags)
+    }
+
+    // Whether a document with a flag has an identifier in what is in it.
+    fn has_inner_bases(&self, flags: &[bool]) -> Result<bool, AllocError> {
+        for (number, summary) in self.summaries.list.iter().enumerate() {
+            let is_in = flags.get(number).copied().unwrap_or(false);
+            if is_in && summary.has_identifier {
+                if let Some(root) = self.workspace.value(number) {
+                    if has_inner_identifier(self.alloc(), root)? {
+                        return Ok(true);
+                    }
+                }
+            }
+        }
+        Ok(false)
+    }
+
+    // The documents that a way of references connects with the one with a number, in whichever direction each goes: nothing where that isn't known.
+    fn connected_with(&self, number: usize) -> Result<Option<Vec<bool>>, AllocError> {
+        let alloc = self.alloc();
+        let Some(uri) = self.workspace.uri(number) else {
+            return Ok(None);
+        };
+        let after = self.summaries.list.as_slice();
+        let mut before = Vec::with_capacity(alloc, after.len())?;
+        let mut wanting = Vec::with_capacity(alloc, after.len())?;
+        for (place, summary) in after.iter().enumerate() {
+            // As though it had come just now.
+            if place == number {
+                before.push(Rc::new(alloc, Summary::of(alloc, uri, None, 0)?)?)?;
+            } else {
+                before.push(summary.clone()?)?;
+            }
+            wanting.push(false)?;
+        }
+        connected(alloc, before.as_slice(), after, wanting.as_slice())
+    }
+}
+
+// Whether a document with a flag is a description.
+fn has_description(summaries: &[Rc<Summary>], flags: &[bool]) -> bool {
+    for (summary, is_in) in summaries.iter().zip(flags.iter()) {
+        if *is_in && summary.is_description {
+            return true;
+        }
+    }
+    false
+}
+
+// Whether an object in a value, other than that itself, has a text that may be an identifier. A step for each value.
+fn has_inner_identifier(alloc: Global, root: &Value) -> Result<bool, AllocError> {
+    let mut waiting = Vec::new(alloc);
+    push_below(&mut waiting, root)?;
+    for _ in 0..u64::MAX {
+        let Some(value) = waiting.pop() else {
+            break;
+        };
+        if IDENTIFIERS.iter().any(|key| is_identified(value.get(*key))) {
+            return Ok(true);
+        }
+        push_below(&mut waiting, value)?;
+    }
+    Ok(false)
+}
+
+// The keys under which an identifier may be.
+const IDENTIFIERS: [&str; 3] = ["$id", "id", "$self"];
+
+// Whether a value is a text that may be an identifier, which is more than a fragment.
+fn is_identified(value: Option<&Value>) -> bool {
+    value
+        .and_then(Value::as_str)
+        .is_some_and(|text| !text.starts_with('#'))
 }

@@ -2,7 +2,7 @@
 use crate::desk::Desk;
 use crate::judged::range_of;
 use ref_outline::Outline;
-use ref_parts::write_escaped_str;
+use ref_parts::{write_escaped_str, write_index};
 use ref_protocol::pieces::{push_comma, push_location, push_text};
 use ref_protocol::refusal::Refusal;
 use serde_json::Value;
@@ -11,7 +11,7 @@ use std::alloc::{AllocError, Global};
 // How many are listed at most.
 const MOST: usize = 1000;
 
-/// `workspace/symbol`: the definitions and components whose names have the query in them, in any case.
+/// `workspace/symbol`: the definitions, at any depth, and the components whose names have the query in them, in any case.
 pub fn workspace_symbols(desk: &Desk<'_>, params: &Value) -> Result<String, Refusal> {
     let alloc = desk.alloc();
     let Some(query) = params.get("query").and_then(Value::as_str) else {
@@ -31,7 +31,7 @@ pub fn workspace_symbols(desk: &Desk<'_>, params: &Value) -> Result<String, Refu
     Ok(out)
 }
 
-/// The pointers of the definitions and components of a value.
+/// The pointers of the definitions and components of a value, but for the definitions of what is in it.
 pub fn named_in(alloc: Global, root: &Value) -> Result<Vec<String>, AllocError> {
     let mut list = Vec::new(alloc);
     for key in [
@@ -77,6 +77,117 @@ fn push_names(
     Ok(())
 }
 
+// A value that is to be visited, with the pointer to it.
+#[derive(Drop)]
+struct Spot<'v> {
+    pointer: String,
+    value: &'v Value,
+    // Whether its keys are names that somebody gave.
+    has_names: bool,
+}
+
+// Adds the pointers of the definitions of what is in a value.
+fn push_inner(alloc: Global, list: &mut Vec<String>, root: &Value) -> Result<(), AllocError> {
+    let mut waiting = Vec::new(alloc);
+    waiting.push(Spot {
+        pointer: String::new(alloc),
+        value: root,
+        has_names: false,
+    })?;
+    for _ in 0..u64::MAX {
+        let Some(spot) = waiting.pop() else {
+            break;
+        };
+        visit(alloc, &spot, list, &mut waiting)?;
+    }
+    Ok(())
+}
+
+fn visit<'v>(
+    alloc: Global,
+    spot: &Spot<'v>,
+    list: &mut Vec<String>,
+    waiting: &mut Vec<Spot<'v>>,
+) -> Result<(), AllocError> {
+    match spot.value {
+        Value::Object(members) => {
+            for (key, value) in members {
+                if is_large(value) && (spot.has_names || !is_data(key.as_str())) {
+                    visit_member(alloc, spot, (key.as_str(), value), list, waiting)?;
+                }
+            }
+            Ok(())
+        }
+        Value::Array(items) => {
+            for (index, value) in items.iter().enumerate() {
+                if is_large(value) {
+                    let mut pointer = spot.pointer.clone()?;
+                    pointer.push('/')?;
+                    write_index(&mut pointer, index)?;
+                    push_spot(waiting, pointer, value, false)?;
+                }
+            }
+            Ok(())
+        }
+        _ => Ok(()),
+    }
+}
+
+fn visit_member<'v>(
+    alloc: Global,
+    spot: &Spot<'v>,
+    (key, value): (&str, &'v Value),
+    list: &mut Vec<String>,
+    waiting: &mut Vec<Spot<'v>>,
+) -> Result<(), AllocError> {
+    let front = spot.pointer.as_str();
+    if !front.is_empty() && !spot.has_names && is_definitions(key) {
+        push_names(alloc, list, front, key, value)?;
+    }
+    let has_names = !spot.has_names && names(front, key);
+    let mut pointer = spot.pointer.clone()?;
+    pointer.push('/')?;
+    write_escaped_str(&mut pointer, key)?;
+    push_spot(waiting, pointer, value, has_names)
+}
+
+fn push_spot<'v>(
+    waiting: &mut Vec<Spot<'v>>,
+    pointer: String,
+    value: &'v Value,
+    has_names: bool,
+) -> Result<(), AllocError> {
+    waiting.push(Spot {
+        pointer,
+        value,
+        has_names,
+    })?;
+    Ok(())
+}
+
+fn is_large(value: &Value) -> bool {
+    value.is_object() || value.is_array()
+}
+
+fn is_definitions(key: &str) -> bool {
+    key == "$defs" || key == "definitions"
+}
+
+// Whether what is under a key is a value and no schema.
+fn is_data(key: &str) -> bool {
+    matches!(key, "enum" | "const" | "default" | "example" | "examples")
+}
+
+// Whether what is under a key, in the object at a pointer, has names as its keys.
+fn names(front: &str, key: &str) -> bool {
+    is_definitions(key)
+        || front == "/components"
+        || matches!(
+            key,
+            "properties" | "patternProperties" | "dependentSchemas" | "dependencies"
+        )
+}
+
 // Those of a document whose names have a query in them.
 fn pointers_in(desk: &Desk<'_>, number: usize, query: &str) -> Result<Vec<String>, AllocError> {
     let alloc = desk.alloc();
@@ -84,7 +195,9 @@ fn pointers_in(desk: &Desk<'_>, number: usize, query: &str) -> Result<Vec<String
     let Some(root) = desk.workspace.value(number) else {
         return Ok(list);
     };
-    for pointer in named_in(alloc, root)? {
+    let mut pointers = named_in(alloc, root)?;
+    push_inner(alloc, &mut pointers, root)?;
+    for pointer in pointers {
         let mut name = String::from_str(alloc, last_of(pointer.as_str()))?;
         name.make_ascii_lowercase();
         if name.as_str().contains(query) {

@@ -1,0 +1,3 @@
+pub mod Folders
+pub mod Marks
+pub mod Turns

@@ -1,0 +1,10 @@
+pub mod Asking
+pub mod Changes
+pub mod Clients
+pub mod Diagnostics
+pub mod Keys
+pub mod Ranges
+pub mod Relative
+pub mod Serving
+pub mod Symbols
+pub mod Turns
