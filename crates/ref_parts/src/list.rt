@@ -1,7 +1,7 @@
 //! A list whose tails are shared.
 
-ghost use Rattle.std.specs.Prelude.{◌≡◌, ◌≤◌, [], ◌∷◌, ◌==◌, IfOk, OnErr, length};
-ghost use Rattle.ref_parts.specs.inner.Items.{items_of};
+ghost use Rattle.std.specs.Prelude.{◌≡◌, ◌≤◌, [], ◌∷◌, ◌++◌, ◌==◌, IfOk, OnErr, length};
+ghost use Rattle.ref_parts.specs.inner.Items.{items_of, held, left};
 
 use std::alloc::{AllocError, Global};
 use std::fmt;
@@ -9,37 +9,48 @@ use std::hash::{Hash, Hasher};
 use std::marker::Model;
 use std::rc::Rc;
 
-/// An immutable list, linked from its front. Lists share what is after an item that was put in front. A list of one item has
-/// no link.
-#[cycle(list)]
+/// An immutable list, linked from its front. Lists share what is after the items that were put in front. The first two items have no
+/// link, and each three that follow have one.
+#[derive(Drop)]
 pub struct List<T: Drop> {
-    held: Held<T>,
+    first: Option<Rc<T>>,
+    second: Option<Rc<T>>,
+    rest: Links<T>,
 }
 
-// What a list has: nothing, one item, or a link.
+// The items from a link on, or none.
 #[cycle(list)]
-#[derive(Drop)]
-enum Held<T: Drop> {
-    Nothing,
-    One(Rc<T>),
-    Linked(Rc<Node<T>>),
+struct Links<T: Drop> {
+    node: Option<Rc<Node<T>>>,
 }
 
 #[cycle(list)]
 #[derive(Drop)]
 struct Node<T: Drop> {
-    value: Rc<T>,
-    next: List<T>,
+    first: Rc<T>,
+    second: Rc<T>,
+    third: Rc<T>,
+    rest: Links<T>,
 }
 
 impl<T: Drop> Model for List<T> {
+    ghost use Rattle.std.specs.Prelude.{List, ◌++◌};
+
+    ghost Value = { List T };
+
+    ghost use Rattle.ref_parts.specs.inner.Items.{held};
+
+    ghost view = { λ l. held l.first ++ (held l.second ++ l.rest) };
+}
+
+impl<T: Drop> Model for Links<T> {
     ghost use Rattle.std.specs.Prelude.{List, length};
 
     ghost Value = { List T };
 
     ghost use Rattle.ref_parts.specs.inner.Items.{items_of};
 
-    ghost view = { λ l. items_of l.held };
+    ghost view = { λ l. items_of l.node };
 
     ghost size = { length };
 
@@ -48,116 +59,191 @@ impl<T: Drop> Model for List<T> {
     ghost size_decreases = { λ a h. Prim.grind (arith) };
 }
 
-impl<T: Drop> Drop for List<T> {
+impl<T: Drop> Drop for Links<T> {
     fn drop(self) {
-        let List { held } = self;
-        let mut rest = held;
-        while let Held::Linked(node) = rest {
+        let Links { node } = self;
+        let mut rest = node;
+        while let Some(node) = rest {
             rest = rest_of(node);
         }
     }
 }
 
 // Lets a node go, and returns what is after it where no other list has it.
-fn rest_of<T: Drop>(node: Rc<Node<T>>) -> Held<T>
-    ensures { length (items_of result) ≤ length node.value.next }
+fn rest_of<T: Drop>(node: Rc<Node<T>>) -> Option<Rc<Node<T>>>
+    ensures { length (items_of result) ≤ length node.value.rest }
 {
     match Rc::into_inner(node) {
         Some(last) => {
-            let Node { value, next } = last;
-            drop(value);
-            next.into_held()
+            let Node {
+                first,
+                second,
+                third,
+                rest,
+            } = last;
+            drop(first);
+            drop(second);
+            drop(third);
+            rest.into_node()
         }
-        None => Held::Nothing,
+        None => None,
+    }
+}
+
+impl<T: Drop> Links<T> {
+    // Its first link.
+    fn into_node(self) -> Option<Rc<Node<T>>>
+        ensures { items_of result ≡ self }
+    {
+        let Links { node } = self;
+        node
     }
 }
 
 impl<T: Drop> List<T> {
     /// The empty list. Takes no memory.
+    #[inline(always)]
     pub fn new() -> Self
         ensures empty { result ≡ [] }
     {
         List {
-            held: Held::Nothing,
+            first: None,
+            second: None,
+            rest: Links { node: None },
         }
     }
 
     /// Whether the list has no items.
+    #[inline(always)]
     pub fn is_empty(&self) -> bool
         ensures value { result ≡ (length self.now == 0) }
     {
-        matches!(self.held, Held::Nothing)
+        self.first.is_none() && self.second.is_none() && self.rest.node.is_none()
     }
 
     /// The list with this item in front. This list stays, and is shared.
     ///
-    /// Takes memory for one link, whatever the length, and is refused where there is none; by the code, none where this list is
-    /// empty, which no clause says.
+    /// Takes memory for at most one link, whatever the length, and is refused where there is none; by the code, for every third item
+    /// alone, and none for the first two, which no clause says.
     #[inline(always)]
     pub fn push_front(&self, alloc: Global, value: Rc<T>) -> Result<Self, AllocError>
         ensures items { IfOk result (λ list. list ≡ value.value ∷ self.now) }
     {
-        if self.is_empty() {
-            return Ok(List {
-                held: Held::One(value),
-            });
+        match (&self.first, &self.second) {
+            (Some(first), Some(second)) => linked(alloc, value, first, second, &self.rest),
+            (Some(only), None) | (None, Some(only)) => Ok(List {
+                first: Some(value),
+                second: Some(only.clone()?),
+                rest: self.rest.clone()?,
+            }),
+            (None, None) => Ok(List {
+                first: Some(value),
+                second: None,
+                rest: self.rest.clone()?,
+            }),
         }
-        let next = self.clone()?;
-        let node = Rc::new(alloc, Node { value, next })?;
-        Ok(List {
-            held: Held::Linked(node),
-        })
     }
 
     /// The items from the front on. Takes no memory.
     pub fn iter(&self) -> Iter<'_, T>
         ensures items { result ≡ self.now }
     {
-        Iter { rest: Some(self) }
-    }
-
-    // What it has.
-    fn into_held(self) -> Held<T>
-        ensures { items_of result ≡ self }
-    {
-        let List { held } = self;
-        held
+        Iter {
+            first: item_of(&self.first),
+            second: item_of(&self.second),
+            rest: &self.rest,
+        }
     }
 }
 
-/// The same items, shared: one handle more, whatever the length. By the code it takes no memory; no clause says so.
+// The list of three items, in a link, and those after them.
+#[inline(never)]
+fn linked<T: Drop>(
+    alloc: Global,
+    value: Rc<T>,
+    first: &Rc<T>,
+    second: &Rc<T>,
+    rest: &Links<T>,
+) -> Result<List<T>, AllocError>
+    ensures { IfOk result
+        (λ list. list ≡ value.value ∷ first.now.value ∷ second.now.value ∷ rest.now) }
+{
+    let node = Node {
+        first: value,
+        second: first.clone()?,
+        third: second.clone()?,
+        rest: rest.clone()?,
+    };
+    let node = Rc::new(alloc, node)?;
+    Ok(List {
+        first: None,
+        second: None,
+        rest: Links { node: Some(node) },
+    })
+}
+
+// The item that a handle has.
+#[inline(always)]
+fn item_of<T: Drop>(handle: &Option<Rc<T>>) -> Option<&T>
+    ensures { left result ≡ held handle.now }
+{
+    match handle {
+        Some(item) => Some(item),
+        None => None,
+    }
+}
+
+/// The same items, shared: one handle more for each of the first two and one for the rest, whatever the length. By the code it takes no
+/// memory; no clause says so.
 ///
-/// It fails only where the first link, or the only item, has no count left for one more handle, which `std::rc::Rc` returns
-/// as out of memory. The empty list has neither, and its copy succeeds.
+/// It fails only where one of the first two items, or the first link, has no count left for one more handle, which `std::rc::Rc`
+/// returns as out of memory. The empty list has none of them, and its copy succeeds.
 impl<T: Drop> Clone for List<T> {
     ghost is_clone = { λ list copy. copy ≡ list };
 
     ghost is_infallible = { λ list. list ≡ [] };
 
+    #[inline(always)]
     fn clone(&self) -> Result<Self, AllocError> {
-        let held = match &self.held {
-            Held::Nothing => Held::Nothing,
-            Held::One(item) => Held::One(item.clone()?),
-            Held::Linked(node) => Held::Linked(node.clone()?),
+        Ok(List {
+            first: self.first.clone()?,
+            second: self.second.clone()?,
+            rest: self.rest.clone()?,
+        })
+    }
+}
+
+impl<T: Drop> Clone for Links<T> {
+    ghost is_clone = { λ links copy. copy ≡ links };
+
+    ghost is_infallible = { λ links. links ≡ [] };
+
+    #[inline(always)]
+    fn clone(&self) -> Result<Self, AllocError> {
+        let node = match &self.node {
+            Some(node) => Some(node.clone()?),
+            None => None,
         };
-        Ok(List { held })
+        Ok(Links { node })
     }
 }
 
 /// The items of a list that are left, from the front on.
 #[derive(Drop)]
 pub struct Iter<'a, T: Drop> {
-    rest: Option<&'a List<T>>,
+    first: Option<&'a T>,
+    second: Option<&'a T>,
+    rest: &'a Links<T>,
 }
 
 impl<'a, T: Drop> Model for Iter<'a, T> {
-    ghost use Rattle.std.specs.Prelude.{List};
+    ghost use Rattle.std.specs.Prelude.{List, ◌++◌};
 
     ghost Value = { List T };
 
-    ghost use Rattle.ref_parts.specs.inner.Items.{items_left};
+    ghost use Rattle.ref_parts.specs.inner.Items.{left};
 
-    ghost view = { λ i. items_left i.rest };
+    ghost view = { λ i. left i.first ++ (left i.second ++ i.rest.now) };
 }
 
 impl<'a, T: Drop> Iterator for Iter<'a, T> {
@@ -169,19 +255,25 @@ impl<'a, T: Drop> Iterator for Iter<'a, T> {
 
     ghost remaining = { item_count (λ items. items) };
 
+    #[inline(always)]
     fn next(&mut self) -> Option<&'a T> {
-        let list = self.rest?;
-        match &list.held {
-            Held::Nothing => None,
-            Held::One(item) => {
-                self.rest = None;
-                Some(item)
-            }
-            Held::Linked(node) => {
-                self.rest = Some(&node.next);
-                Some(&node.value)
-            }
+        if let Some(item) = self.first {
+            self.first = self.second;
+            self.second = None;
+            return Some(item);
         }
+        if let Some(item) = self.second {
+            self.second = None;
+            return Some(item);
+        }
+        let links = self.rest;
+        let Some(node) = &links.node else {
+            return None;
+        };
+        self.first = Some(&node.second);
+        self.second = Some(&node.third);
+        self.rest = &node.rest;
+        Some(&node.first)
     }
 }
 
@@ -248,9 +340,11 @@ impl<T: fmt::Debug + Drop> fmt::Debug for List<T> {
 
 impl<T: fmt::Debug + Drop> fmt::Debug for Iter<'_, T> {
     fn fmt<W: fmt::Write>(&self, f: &mut fmt::Formatter<W>) -> fmt::Result {
-        let none = List::new();
-        f.debug_struct("Iter")
-            .field("rest", self.rest.unwrap_or(&none))
-            .finish()
+        let items = Iter {
+            first: self.first,
+            second: self.second,
+            rest: self.rest,
+        };
+        f.debug_list().entries(items).finish()
     }
 }

@@ -1,5 +1,5 @@
 //! A table that is made once and then searched: from pairs of texts to values.
-ghost use Rattle.std.specs.Prelude.{◌≡◌, ℕ, ◌+◌, ◌-◌, ◌^◌, ◌<◌, ◌≤◌, ◌&&◌, All, List, [], ◌∷◌, option_copied, IsUtf8, map, reverse, length, take, drop, ◌++◌, IfOk, OnOk, OnErr};
+ghost use Rattle.std.specs.Prelude.{◌≡◌, ℕ, ◌+◌, ◌-◌, ◌^◌, ◌<◌, ◌≤◌, ◌&&◌, All, List, [], ◌∷◌, option_copied, IsUtf8, map, reverse, length, take, drop, ◌++◌, IfOk, IfSome, Some, OnOk, OnErr};
 ghost use Rattle.ref_parts.specs.Table.{entries_of, texts_of, with_value, ChangesBy, last_value, pair_count};
 ghost use Rattle.std.specs.Cmp.Lexicographic.{slice_cmp};
 ghost use Rattle.std.specs.Ordering.{nat_cmp};
@@ -24,9 +24,9 @@ pub struct SortedTable<V> {
     texts: Vec<u8>,
     // How many bytes the first texts begin with alike.
     shared: usize,
-    // Where the entry of two texts is likely to be: its place, under a number of its texts. Any places would do, since an entry is
-    // compared with what is sought, and sought by halving where it is another one.
-    hints: Vec<u32>,
+    // Where the entry of two texts is likely to be: its place, in the bucket of a number of its texts. Any places would do, since an
+    // entry is compared with what is sought, and sought by halving where none is that one.
+    hints: Vec<Bucket>,
     entered: Snapshot<Vec<Slot<V>>>,
 }
 
@@ -49,6 +49,18 @@ struct Slot<V> {
     end: usize,
     value: V,
 }
+
+// The places of up to four entries; `NOWHERE` for each that there is not.
+#[derive(Clone, Copy, Drop)]
+struct Bucket {
+    first: u32,
+    second: u32,
+    third: u32,
+    fourth: u32,
+}
+
+// A place that no entry has.
+const NOWHERE: u32 = u32::MAX;
 
 impl<V> Model for SortedTable<V> {
     ghost use Rattle.std.specs.Prelude.{List, ℕ};
@@ -222,14 +234,15 @@ impl<V> SortedTable<V> {
 
     /// The value that was entered last under two texts: what `get` finds, without a count.
     ///
-    /// Mostly one comparison, with the entry at a place that a number of the texts is kept with; where that is another entry, it is
-    /// found by halving, as `get` does. Takes no memory.
+    /// Mostly one comparison, with the entry at a place that is kept under a number of the texts; where that is another entry, up to
+    /// four, and then it is found by halving, as `get` does. Takes no memory.
     #[inline(always)]
     pub fn find(&self, first: &str, second: &str) -> Option<&V>
         ensures value { option_copied result ≡ last_value first.now second.now self.now }
     {
         let word = word_at(first.as_bytes(), self.shared);
-        let place = self.hint(mixed(word, first.as_bytes(), second.as_bytes()), word);
+        let bucket = self.bucket(mixed(word, first.as_bytes(), second.as_bytes()));
+        let place = self.place_in(bucket, word);
         if place < self.kept.len() {
             let slot = &self.kept[place];
             match order(&self.texts, slot.word, slot, word, first, second) {
@@ -237,51 +250,117 @@ impl<V> SortedTable<V> {
                 _ => {}
             }
         }
-        self.search(first, second)
+        self.search(bucket, first, second)
     }
 
-    // The same by halving alone.
+    // The same, where the first entry of the bucket whose first text has the word is another one: by the others of the bucket, and
+    // then by halving.
     #[inline(never)]
-    fn search(&self, first: &str, second: &str) -> Option<&V>
+    fn search(&self, bucket: Bucket, first: &str, second: &str) -> Option<&V>
         ensures value { option_copied result ≡ last_value first.now second.now self.now }
     {
+        if let Some(value) = self.value_at(bucket.second, first, second) {
+            return Some(value);
+        }
+        if let Some(value) = self.value_at(bucket.third, first, second) {
+            return Some(value);
+        }
+        if let Some(value) = self.value_at(bucket.fourth, first, second) {
+            return Some(value);
+        }
         self.get(first, second).0
     }
 
-    // The place where an entry is likely to be, by the number of its two texts: the first of two, where the first text of the entry
-    // there has this word, and else the second. It may be beyond the end.
+    // The value of the entry at a place, where that is the one of two texts.
+    fn value_at(&self, place: u32, first: &str, second: &str) -> Option<&V>
+        ensures value { IfSome result
+            (λ v. last_value first.now second.now self.now ≡ Some v.now) }
+    {
+        let place = place as usize;
+        if place >= self.kept.len() {
+            return None;
+        }
+        let word = word_at(first.as_bytes(), self.shared);
+        let slot = &self.kept[place];
+        match order(&self.texts, slot.word, slot, word, first, second) {
+            Ordering::Equal => Some(&slot.value),
+            _ => None,
+        }
+    }
+
+    // The bucket of a number.
     #[inline(always)]
-    fn hint(&self, mixed: usize, word: u64) -> usize {
-        let bucket = mixed & self.hints.len().wrapping_sub(1);
-        let place = place_in(self.hints.as_slice(), bucket);
-        match self.words.get(place) {
-            Some(number) if *number == word => place,
-            _ => place_in(self.hints.as_slice(), bucket ^ 1),
+    fn bucket(&self, number: usize) -> Bucket {
+        let at = number & self.hints.len().wrapping_sub(1);
+        self.hints.get(at).copied().unwrap_or(Bucket::new())
+    }
+
+    // The first place of a bucket at which the first text of the entry has this word; beyond the end where there is none.
+    #[inline(always)]
+    fn place_in(&self, bucket: Bucket, word: u64) -> usize {
+        if self.has_word(bucket.first, word) {
+            return bucket.first as usize;
+        }
+        if self.has_word(bucket.second, word) {
+            return bucket.second as usize;
+        }
+        if self.has_word(bucket.third, word) {
+            return bucket.third as usize;
+        }
+        bucket.fourth as usize
+    }
+
+    #[inline(always)]
+    fn has_word(&self, place: u32, word: u64) -> bool {
+        match self.words.get(place as usize) {
+            Some(number) => *number == word,
+            None => false,
         }
     }
 }
 
-// The place in a bucket, which is beyond any end where there is none.
-#[inline(always)]
-fn place_in(hints: &[u32], bucket: usize) -> usize {
-    match hints.get(bucket) {
-        Some(place) => *place as usize,
-        None => usize::MAX,
+impl Bucket {
+    // No places.
+    #[inline(always)]
+    fn new() -> Bucket {
+        Bucket {
+            first: NOWHERE,
+            second: NOWHERE,
+            third: NOWHERE,
+            fourth: NOWHERE,
+        }
+    }
+
+    // Adds a place, in that of the last where there are four already.
+    #[inline(always)]
+    fn push(&mut self, place: u32) {
+        if self.first == NOWHERE {
+            self.first = place;
+        } else if self.second == NOWHERE {
+            self.second = place;
+        } else if self.third == NOWHERE {
+            self.third = place;
+        } else {
+            self.fourth = place;
+        }
     }
 }
 
-// The places of entries, in buckets by the numbers of their texts: two for each entry, or up to four. A bucket that is taken
-// already is passed over for the one beside it. Of more than 2^31 entries some have none.
-fn hints_of<V>(alloc: Global, texts: &[u8], kept: &[Slot<V>]) -> Result<Vec<u32>, AllocError> {
-    let size = bucket_count(kept.len());
+// The places of entries, in buckets by the numbers of their texts: room for two of each entry, or up to four. Of more than 2^31
+// entries some have none.
+#[inline(never)]
+fn hints_of<V>(alloc: Global, texts: &[u8], kept: &[Slot<V>]) -> Result<Vec<Bucket>, AllocError> {
+    let count = bucket_count(kept.len());
     let mut hints = Vec::new(alloc);
-    hints.resize(size, u32::MAX)?;
+    hints.resize(count, Bucket::new())?;
     let mut place = 0;
     for slot in kept {
         let first = text_between(texts, slot.first, slot.second);
         let second = text_between(texts, slot.second, slot.end);
-        let bucket = mixed(slot.word, first, second) & size.wrapping_sub(1);
-        set_hint(hints.as_mut_slice(), bucket, place);
+        let at = mixed(slot.word, first, second) & count.wrapping_sub(1);
+        if let Some(bucket) = hints.get_mut(at) {
+            bucket.push(place);
+        }
         place = place.wrapping_add(1);
     }
     Ok(hints)
@@ -289,17 +368,7 @@ fn hints_of<V>(alloc: Global, texts: &[u8], kept: &[Slot<V>]) -> Result<Vec<u32>
 
 // How many buckets there are for so many entries, a power of two.
 fn bucket_count(entries: usize) -> usize {
-    let few = entries.min(1 << 31);
-    (few + few).next_power_of_two()
-}
-
-// Puts a place into a bucket, or, where that is taken, into the one beside it.
-fn set_hint(hints: &mut [u32], bucket: usize, place: u32) {
-    let is_free = place_in(hints, bucket) == u32::MAX as usize;
-    let bucket = if is_free { bucket } else { bucket ^ 1 };
-    if let Some(hint) = hints.get_mut(bucket) {
-        *hint = place;
-    }
+    (entries.min(1 << 31) / 2).next_power_of_two()
 }
 
 // A number of two texts, with the word of the first: by that, the last eight bytes of each, and the length of the second.
@@ -309,8 +378,8 @@ fn mixed(word: u64, first: &[u8], second: &[u8]) -> usize {
         ^ last_word(second).rotate_left(39)
         ^ second.len() as u64;
     let both = word ^ ends;
-    let folded = both ^ (both >> 32);
-    (folded.wrapping_mul(0x9e37_79b9_7f4a_7c15) >> 32) as usize
+    let folded = (both ^ (both >> 32)).wrapping_mul(0x9e37_79b9_7f4a_7c15);
+    ((folded >> 32) ^ (folded >> 48)) as usize
 }
 
 // The last eight bytes of a text as a number, or those that it has.

@@ -283,7 +283,7 @@ impl<'r> Resolver<'r> {
             is_base,
         } = self.target(alloc, reference)?;
         if is_name(fragment) {
-            return self.at_name(alloc, uri, fragment);
+            return self.at_name(alloc, uri, fragment, is_base);
         }
         let Some(place) = self.layers.resource_or(place, uri.as_str()) else {
             return Err(not_retrieved(alloc, &uri));
@@ -359,9 +359,16 @@ impl<'r> Resolver<'r> {
         })
     }
 
-    // Where a name leads under a URI.
+    // Where a name leads under a URI, which may be known to be the base.
     #[inline(never)]
-    fn at_name(&self, alloc: Global, uri: Rc<Uri>, name: &str) -> Result<Resolved<'r>, Error>
+    fn at_name(
+        &self,
+        alloc: Global,
+        uri: Rc<Uri>,
+        name: &str,
+        is_base: bool,
+    ) -> Result<Resolved<'r>, Error>
+        requires base { is_base ≡ true → uri.value ≡ (resolver_of self.now).base }
         ensures gives { (reference : List ℕ)
             → target (resolver_of self.now).base reference ≡ Ok uri.value
             → fragment_part reference ≡ name.now → is_name name.now ≡ true
@@ -374,7 +381,7 @@ impl<'r> Resolver<'r> {
         if found.named.is_dynamic {
             return self.at_dynamic(alloc, uri, name, found.place);
         }
-        let scope = self.scope_at(alloc, uri.as_str(), false)?;
+        let scope = self.scope_at(alloc, uri.as_str(), is_base)?;
         Ok(Resolved {
             contents: found.place.value,
             resolver: Resolver {

@@ -3,14 +3,16 @@ use Rattle.std.specs.Prelude.{◌≡◌, ℕ, List, [], ◌∷◌, Some, None}
 use Rattle.std.specs.Borrow.{Bor}
 use Rattle.std.specs.declared.alloc.Global.{Global}
 use Rattle.std.specs.declared.rc.Rc.{Rc}
-use Rattle.ref_parts.specs.inner.Items.{items_of, items_left}
-use Rattle.ref_parts.specs.declared.list.Held.TheVariants.{Nothing, One, Linked}
+use Rattle.ref_parts.specs.inner.Items.{items_of, held, left}
 use Rattle.ref_parts.specs.declared.list.Node.{Node}
 
 pub record ListRows : Type 0 where
-  pub no_item : items_of {T = ℕ} Nothing ≡ []
-  pub only_item : (item : Rc ℕ Global) → items_of (One item) ≡ item.value ∷ []
-  pub first_item : (node : Rc (Node ℕ) Global)
-      → items_of (Linked node) ≡ node.value.value.value ∷ node.value.next
-  pub nothing_left : items_left {T = ℕ} None ≡ []
-  pub all_left : (list : Bor (List ℕ)) → items_left (Some list) ≡ list.now
+  pub nothing_held : held {T = ℕ} None ≡ []
+  pub one_held : (item : Rc ℕ Global) → held (Some item) ≡ item.value ∷ []
+  pub no_items : items_of {T = ℕ} None ≡ []
+  pub three_items : (node : Rc (Node ℕ) Global)
+      → items_of (Some node)
+      ≡ node.value.first.value
+      ∷ node.value.second.value ∷ node.value.third.value ∷ node.value.rest
+  pub nothing_left : left {T = ℕ} None ≡ []
+  pub one_left : (item : Bor ℕ) → left (Some item) ≡ item.now ∷ []

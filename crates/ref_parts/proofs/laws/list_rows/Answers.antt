@@ -2,4 +2,4 @@ use Rattle.std.proofs.Common.{refl}
 use Rattle.ref_parts.proofs.laws.list_rows.Goals as goal
 
 pub returns : goal.returns
-returns c = record { rows = record { no_item = refl; only_item = λ item. refl; first_item = λ node. refl; nothing_left = refl; all_left = λ list. refl } }
+returns c = record { rows = record { nothing_held = refl; one_held = λ item. refl; no_items = refl; three_items = λ node. refl; nothing_left = refl; one_left = λ item. refl } }
