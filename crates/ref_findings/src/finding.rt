@@ -16,6 +16,8 @@ pub struct Report<'v> {
     /// How many references the sources have: texts under `$ref`, and under `$dynamicRef` or `$recursiveRef` where their draft has
     /// it, where schemas are.
     pub references: usize,
+    /// How many places the sources have where schemas are.
+    pub places: usize,
 }
 
 /// Something that is wrong with a source, or a note on it.

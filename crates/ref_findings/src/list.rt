@@ -537,6 +537,7 @@ fn reported<'v>(
     Ok(Report {
         findings,
         references: count_references(sites),
+        places: sites.len(),
     })
 }
 

@@ -25,6 +25,7 @@ pub use documents::{Source, documents_of};
 pub use finding::{Finding, Level, Problem};
 pub use leading::Target;
 pub use lookup::target;
+pub use mapped::is_name;
 pub use place::Place;
 pub use reaching::{Reached, reach, reach_schemas};
 pub use schemas::{Schemas, schemas_of};

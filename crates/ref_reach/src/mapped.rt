@@ -42,8 +42,8 @@ fn is_any(roots: &[&Value], name: &str) -> bool
 }
 
 /// Whether a text in a mapping is the name of a schema: of the description that it is in, or else, in a document that is none, of any
-/// description.
-pub(crate) fn is_name(documents: &Documents<'_>, document: usize, text: &str) -> bool
+/// description. Work for each document at most, and for the names of its components.
+pub fn is_name(documents: &Documents<'_>, document: usize, text: &str) -> bool
     ensures value { result ≡ is_name (known_of documents.now) document text.now }
 {
     if documents.version(document).is_none() {

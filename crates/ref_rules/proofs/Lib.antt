@@ -1,4 +1,5 @@
 pub mod Lists
 pub mod Turning
-pub mod Searching
-pub mod Circling
+pub mod Growing
+pub mod Applied
+pub mod Suspects

@@ -4,8 +4,8 @@ pub mod Slips
 pub mod Ends
 pub mod Members
 pub mod Cases
-pub mod Circles
-pub mod Reaching
+pub mod InPlace
+pub mod Places
 pub mod Views
 pub mod Rows
 pub mod inner

@@ -8,7 +8,6 @@ use Rattle.ref_rules.specs.Slips.{Place, Slip}
 use Rattle.ref_rules.specs.Ends.{End}
 use Rattle.ref_rules.specs.Members.{Member, Repeat}
 use Rattle.ref_rules.specs.Cases.{Alike}
-use Rattle.ref_rules.specs.Circles.{Step}
 
 -- the root of a document, and a place below it
 abbrev pub root : Draft → Data → Place
@@ -36,7 +35,3 @@ again number first = record { number = number; first = first }
 -- a text that is wanted, and one that is there
 abbrev pub like : ℕ → ℕ → Alike
 like wanted there = record { wanted = wanted; there = there }
-
--- a step from a place to another one
-abbrev pub step : ℕ → ℕ → Step
-step from to = record { from = from; to = to }

@@ -3,14 +3,12 @@ use Rattle.serde_json.specs.View.{view}
 use Rattle.ref_rules.specs.declared.slip.Place as rust_place
 use Rattle.ref_rules.specs.declared.slip.Slip as rust_slip
 use Rattle.ref_rules.specs.declared.ends.End as rust_end
+use Rattle.ref_rules.specs.declared.spots.Spot as rust_spot
 use Rattle.ref_rules.specs.declared.members.Member as rust_member
 use Rattle.ref_rules.specs.declared.members.Repeat as rust_repeat
 use Rattle.ref_rules.specs.declared.cases.Alike as rust_alike
 use Rattle.ref_rules.specs.declared.cases.Name as rust_name
-use Rattle.std.specs.Prelude.{◌≡◌, ℕ, List, All, true, string_bytes}
-use Rattle.ref_rules.specs.declared.circles.Step as rust_step
-use Rattle.ref_rules.specs.declared.circles.Circle as rust_circle
-use Rattle.ref_rules.specs.Circles.{Step, is_circle}
+use Rattle.std.specs.Prelude.{ℕ, List, string_bytes, is_none}
 use Rattle.ref_rules.specs.Slips.{Place, Slip}
 use Rattle.ref_rules.specs.Ends.{End}
 use Rattle.ref_rules.specs.Members.{Member, Repeat}
@@ -19,6 +17,10 @@ use Rattle.ref_rules.specs.Cases.{Alike}
 -- a place
 abbrev pub place_of : rust_place.Place → Place
 place_of p = record { is_root = p.is_root; draft = p.draft; value = view p.value.now }
+
+-- a spot as a place: one that no keyword leads to is a root
+abbrev pub spot_of : rust_spot.Spot → Place
+spot_of s = record { is_root = is_none s.keyword; draft = s.draft; value = view s.value.now }
 
 -- what is told of one
 abbrev pub slip_of : rust_slip.Slip → Slip
@@ -43,11 +45,3 @@ repeat_of r = record { number = r.number; first = r.first }
 -- a text that is wanted, and one that is there
 abbrev pub alike_of : rust_alike.Alike → Alike
 alike_of a = record { wanted = a.wanted; there = a.there }
-
--- a step
-abbrev pub step_of : rust_step.Step → Step
-step_of s = record { from = s.from; to = s.to }
-
--- each is a circle of these steps
-abbrev pub AreCircles : List Step → List rust_circle.Circle → Type 0
-AreCircles steps circles = All (λ c. is_circle steps c.steps.items ≡ true) circles

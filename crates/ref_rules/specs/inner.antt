@@ -1,4 +1,4 @@
 -- What no public clause cites.
 pub mod Adding
-pub mod Searching
-pub mod Circling
+pub mod Firsts
+pub mod Spots

@@ -9,9 +9,9 @@ ghost use Rattle.ref_rules.specs.Slips.{of_another, is_dialect_within, beside_re
 ghost use Rattle.ref_rules.specs.Ends.{is_schema, no_schemas};
 ghost use Rattle.ref_rules.specs.Members.{repeats};
 ghost use Rattle.ref_rules.specs.Cases.{all_alike};
-ghost use Rattle.ref_rules.specs.Circles.{is_circle};
-ghost use Rattle.ref_rules.specs.Reaching.{leads_between};
-ghost use Rattle.ref_rules.specs.Rows.{root, inner, told, end, member, again, like, step};
+ghost use Rattle.ref_paths.specs.Path.{Key, Index};
+ghost use Rattle.ref_rules.specs.InPlace.{is_in_place, in_place};
+ghost use Rattle.ref_rules.specs.Rows.{root, inner, told, end, member, again, like};
 
 /// The keywords of others, of each draft.
 pub fn keywords_of_others()
@@ -140,25 +140,48 @@ pub fn letters_of_names()
         ≡ like 1 0 ∷ [] }
 {}
 
-/// Steps that come back to where they began.
-pub fn steps_that_come_back()
-    ensures to_itself { is_circle (step 3 3 ∷ []) (0 ∷ []) ≡ true }
-    ensures of_two { is_circle (step 0 1 ∷ step 5 2 ∷ step 1 0 ∷ []) (2 ∷ 0 ∷ []) ≡ true }
-    ensures not_back { is_circle (step 0 1 ∷ step 1 2 ∷ []) (0 ∷ 1 ∷ []) ≡ false }
-    ensures apart { is_circle (step 0 1 ∷ step 2 0 ∷ []) (0 ∷ 1 ∷ []) ≡ false }
-    ensures twice_around { is_circle (step 0 0 ∷ []) (0 ∷ 0 ∷ []) ≡ true }
-    ensures of_no_steps { is_circle (step 0 0 ∷ []) [] ≡ false }
-    ensures no_such_step { is_circle (step 0 0 ∷ []) (1 ∷ []) ≡ false }
-{}
-
-/// Steps that lead on from the first place.
-pub fn steps_that_lead_on()
-    ensures by_none { leads_between 1 [] [] 0 ≡ true }
-    ensures by_one { leads_between 2 (step 0 1 ∷ []) (0 ∷ []) 1 ≡ true }
-    ensures by_two { leads_between 3 (step 1 2 ∷ step 0 1 ∷ []) (1 ∷ 0 ∷ []) 2 ≡ true }
-    ensures around { leads_between 2 (step 0 0 ∷ step 0 1 ∷ []) (0 ∷ 0 ∷ 1 ∷ []) 1 ≡ true }
-    ensures from_another { leads_between 3 (step 1 2 ∷ []) (0 ∷ []) 2 ≡ false }
-    ensures to_another { leads_between 3 (step 0 1 ∷ []) (0 ∷ []) 2 ≡ false }
-    ensures by_no_place { leads_between 2 (step 0 5 ∷ step 5 1 ∷ []) (0 ∷ 1 ∷ []) 1 ≡ false }
-    ensures no_such_step { leads_between 2 (step 0 1 ∷ []) (1 ∷ []) 1 ≡ false }
+/// Schemas that are applied to the same value as one that they are in.
+pub fn schemas_in_place()
+    ensures itself { is_in_place Draft7 (Some empty) [] ≡ true }
+    ensures an_item { is_in_place Draft7 (Some (one "allOf" (list empty)))
+        (Key (codes "allOf") ∷ Index 0 ∷ [])
+        ≡ true }
+    ensures no_item { is_in_place Draft7 (Some (one "allOf" (list empty)))
+        (Key (codes "allOf") ∷ Index 1 ∷ [])
+        ≡ false }
+    ensures the_list { is_in_place Draft7 (Some (one "allOf" (list empty)))
+        (Key (codes "allOf") ∷ [])
+        ≡ false }
+    ensures of_a_property { is_in_place Draft7 (Some (one "properties" (one "a" empty)))
+        (Key (codes "properties") ∷ Key (codes "a") ∷ [])
+        ≡ false }
+    ensures beside_a_reference_in_7 { is_in_place Draft7
+        (Some (two "$ref" (text "#/a") "not" empty)) (Key (codes "not") ∷ [])
+        ≡ false }
+    ensures beside_a_reference_in_2020 { is_in_place Draft202012
+        (Some (two "$ref" (text "#/a") "not" empty)) (Key (codes "not") ∷ [])
+        ≡ true }
+    ensures if_in_6 { is_in_place Draft6 (Some (one "if" empty)) (Key (codes "if") ∷ [])
+        ≡ false }
+    ensures then_beside_an_if { is_in_place Draft7 (Some (two "if" yes "then" empty))
+        (Key (codes "then") ∷ [])
+        ≡ true }
+    ensures then_alone { is_in_place Draft7 (Some (one "then" empty)) (Key (codes "then") ∷ [])
+        ≡ false }
+    ensures dependencies_in_7 { is_in_place Draft7 (Some (one "dependencies" (one "a" empty)))
+        (Key (codes "dependencies") ∷ Key (codes "a") ∷ [])
+        ≡ true }
+    ensures dependencies_in_2019 { is_in_place Draft201909
+        (Some (one "dependencies" (one "a" empty)))
+        (Key (codes "dependencies") ∷ Key (codes "a") ∷ [])
+        ≡ false }
+    ensures dependent_schemas { is_in_place Draft201909
+        (Some (one "dependentSchemas" (one "a" empty)))
+        (Key (codes "dependentSchemas") ∷ Key (codes "a") ∷ [])
+        ≡ true }
+    ensures nowhere { is_in_place Draft7 (Some empty) (Key (codes "not") ∷ []) ≡ false }
+    ensures beginnings { in_place Draft7
+        (Some (one "properties" (one "a" (one "not" empty))))
+        (Key (codes "properties") ∷ Key (codes "a") ∷ Key (codes "not") ∷ [])
+        ≡ false ∷ false ∷ true ∷ true ∷ [] }
 {}

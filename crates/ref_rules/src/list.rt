@@ -11,27 +11,28 @@ ghost use Rattle.ref_rules.specs.inner.Adding.{AddsSlips, kept, is_other_there};
 
 use crate::dialect::misspelled;
 use crate::slip::{Place, Problem, Slip};
+use crate::suspect::may_slip;
 use crate::tables::{decides, of_others, tells};
 use ref_draft::ResourceRef;
 use serde_json::Value;
 use std::alloc::{AllocError, Global};
 
 // The text under a keyword.
-fn text_under<'v>(value: &'v Value, keyword: &str) -> Option<&'v str>
+pub(crate) fn text_under<'v>(value: &'v Value, keyword: &str) -> Option<&'v str>
     ensures { option_map (λ text. text.now) result ≡ text_under keyword.now (view value.now) }
 {
     value.get(keyword).and_then(Value::as_str)
 }
 
 // Whether a value has a text under a keyword.
-fn has_text(value: &Value, keyword: &str) -> bool
+pub(crate) fn has_text(value: &Value, keyword: &str) -> bool
     ensures { result ≡ is_some (text_under keyword.now (view value.now)) }
 {
     text_under(value, keyword).is_some()
 }
 
 // Whether a value has a keyword.
-fn is_there(value: &Value, keyword: &str) -> bool
+pub(crate) fn is_there(value: &Value, keyword: &str) -> bool
     ensures { result ≡ is_there (view value.now) keyword.now }
 {
     value.get(keyword).is_some()
@@ -183,7 +184,7 @@ fn push_misspelled(
     }
 }
 
-// Adds what is told of the place with a number.
+// Adds what is told of the place with a number, where anything may be told of it.
 fn push_slips(
     alloc: Global,
     list: &mut Vec<Slip>,
@@ -193,6 +194,9 @@ fn push_slips(
     ensures { OnOk result
         (AddsSlips (slips_at (number, place_of place.entry)) list.old.items list.new.items) }
 {
+    if !may_slip(place) {
+        return Ok(());
+    }
     push_others(list, number, place)?;
     push_within(list, number, place)?;
     push_beside(list, number, place)?;
@@ -201,8 +205,8 @@ fn push_slips(
 
 /// What is told of places where schemas are, place by place: keywords that the draft of a place doesn't have and another one has; a `$schema`
 /// within a schema that has no identifier (2020-12 Core, 8.1.1); in Drafts 4 to 7 keywords beside a `$ref`, which count for nothing there (Draft 7
-/// Core, 8.3); and a `$schema` that means a draft and is not the URI of its meta-schema. Fails only if out of memory. Some twenty look-ups for each
-/// place, and more where it has a `$ref` or a `$schema`.
+/// Core, 8.3); and a `$schema` that means a draft and is not the URI of its meta-schema. Fails only if out of memory. A step for each member of a place, and where
+/// something may be told of it some twenty look-ups.
 pub fn slips(alloc: Global, places: &[Place<'_>]) -> Result<Vec<Slip>, AllocError>
     ensures value { IfOk result
         (λ list. map slip_of list.items ≡ spec.slips (map place_of places.now)) }

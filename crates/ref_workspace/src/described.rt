@@ -2,6 +2,7 @@
 use crate::anchors::{Anchors, anchors_for};
 use crate::endless::{Link, add_links};
 use crate::finding::{Finding, Problem, push};
+use crate::identified::{Misnamed, add_misnamed};
 use crate::leads::{NoObject, add_all_no_objects, add_no_objects};
 use crate::led::add_led_places;
 use crate::placed::Placed;
@@ -50,8 +51,10 @@ pub(crate) struct Described {
     no_objects: Option<Vec<NoObject>>,
     // What is told of places that references of schemas lead to, and of schemas of descriptions.
     told: Vec<ToldAt>,
-    // Whether the latter is wanted.
+    // Whether it is wanted of descriptions what is told of keywords beside references.
     tells_beside: bool,
+    // What is wrong with identifiers in descriptions.
+    misnamed: Vec<Misnamed>,
 }
 
 /// What is wrong with a reference in the document with a number, at a path.
@@ -175,6 +178,7 @@ impl Described {
             no_objects: None,
             told: Vec::new(alloc),
             tells_beside: workspace.tells_beside(),
+            misnamed: Vec::new(alloc),
         };
         for number in 0..workspace.len() {
             let is_there = described.has(number);
@@ -269,6 +273,24 @@ impl Described {
         add_beside_at(alloc, asked, numbers, places, &mut self.told)
     }
 
+    // Adds what is wrong with the identifiers of places that descriptions have by themselves.
+    fn add_misnamed<'r>(
+        &mut self,
+        alloc: Global,
+        asked: usize,
+        documents: (&[Source<'_>], &[usize]),
+        places: &[Place<'r>],
+    ) -> Result<(), AllocError> {
+        add_misnamed(alloc, asked, documents, places, &mut self.misnamed)
+    }
+
+    /// What is wrong with identifiers in descriptions, which is given away.
+    pub fn take_misnamed(&mut self, alloc: Global) -> Vec<Misnamed> {
+        let mut misnamed = Vec::new(alloc);
+        swap(&mut self.misnamed, &mut misnamed);
+        misnamed
+    }
+
     /// What is told of these, which is given away.
     pub fn take_told(&mut self, alloc: Global) -> Vec<ToldAt> {
         let mut told = Vec::new(alloc);
@@ -342,7 +364,8 @@ pub(crate) fn add_described<'d>(
         return Ok(());
     }
     described.no_objects = Some(Vec::new(alloc));
-    for fault in faults_of(alloc, workspace, described)? {
+    let faults = faults_of(alloc, workspace, described)?;
+    for fault in each_once(alloc, faults)? {
         add_fault(workspace, fault, list)?;
     }
     match described.no_objects.take() {
@@ -369,7 +392,10 @@ fn faults_by<'d>(
 ) -> Result<Vec<Fault<'d>>, AllocError> {
     let documents = documents_of(alloc, workspace.draft(), numbered.sources.as_slice())?;
     let numbers = numbered.numbers.as_slice();
-    faults_among(alloc, workspace.asked(), numbers, &documents, described)
+    let sources = numbered.sources.as_slice();
+    let asked = workspace.asked();
+    described.add_misnamed(alloc, asked, (sources, numbers), documents.own())?;
+    faults_among(alloc, asked, numbers, &documents, described)
 }
 
 fn faults_among<'d, 'r>(
@@ -385,6 +411,8 @@ fn faults_among<'d, 'r>(
     described.add_links(alloc, numbers, documents, reached.places.as_slice())?;
     described.add_no_objects(alloc, numbers, documents, documents.own())?;
     described.add_no_objects(alloc, numbers, documents, reached.places.as_slice())?;
+    described.add_told(alloc, asked, numbers, documents.own())?;
+    described.add_told(alloc, asked, numbers, reached.places.as_slice())?;
     described.add_beside(alloc, asked, numbers, documents.own())?;
     described.add_beside(alloc, asked, numbers, reached.places.as_slice())?;
     faults_in(alloc, numbers, documents.own(), documents.own(), reached)
@@ -477,7 +505,7 @@ fn push_fault<'d>(list: &mut Vec<Fault<'d>>, fault: Fault<'d>) -> Result<(), All
     Ok(())
 }
 
-/// Faults, each once: a place that is reached with several drafts or bases may have one fault with each.
+/// Faults, each once: a place that is reached with several versions, kinds, drafts or bases may have one fault with each.
 pub(crate) fn each_once<'d>(
     alloc: Global,
     faults: Vec<Fault<'d>>,
@@ -492,18 +520,18 @@ pub(crate) fn each_once<'d>(
     Ok(list)
 }
 
-// A text that tells faults apart: where the reference is, and what it means.
+// A text that tells faults apart: where the reference is, what it means, and where that is of another kind, which kind is needed.
 fn name_of(alloc: Global, fault: &Fault<'_>) -> Result<String, AllocError> {
-    let uri = match &fault.problem {
-        ReachProblem::MissingDocument { uri } => uri.as_str(),
-        ReachProblem::LeadsNowhere { uri, .. } => uri.as_str(),
-        ReachProblem::WrongKind { uri, .. } => uri.as_str(),
-        ReachProblem::Unchecked { uri } => uri.as_str(),
-        _ => "",
+    let (uri, kind) = match &fault.problem {
+        ReachProblem::MissingDocument { uri } => (uri.as_str(), ""),
+        ReachProblem::LeadsNowhere { uri, .. } => (uri.as_str(), ""),
+        ReachProblem::WrongKind { uri, wanted, .. } => (uri.as_str(), wanted.name()),
+        ReachProblem::Unchecked { uri } => (uri.as_str(), ""),
+        _ => ("", ""),
     };
     let pointer = pointer_of(alloc, fault.path.as_slice())?;
     let (number, keyword) = (fault.document, fault.keyword.as_str());
-    format!(in alloc; "{number} {uri} {keyword} {pointer}")
+    format!(in alloc; "{number} {kind} {uri} {keyword} {pointer}")
 }
 
 /// Adds the finding of a fault, where its document is asked about.
@@ -569,7 +597,7 @@ impl Workspace {
     }
 
     /// The same of those documents that are looked at, by flags: one without a flag is.
-    pub(crate) fn description_among<'d>(
+    pub fn description_among<'d>(
         &'d self,
         alloc: Global,
         there: &[bool],
@@ -676,7 +704,7 @@ impl<'d> Description<'d> {
         for place in places {
             if let Some(document) = numbers.get(place.document).copied() {
                 self.add_place(alloc, document, place)?;
-                self.add_references(alloc, document, workspace.value(document), place)?;
+                self.add_references(alloc, workspace, document, place)?;
             }
         }
         Ok(())
@@ -702,13 +730,14 @@ impl<'d> Description<'d> {
     fn add_references(
         &mut self,
         alloc: Global,
+        workspace: &Workspace,
         document: usize,
-        root: Option<&Value>,
         place: &Place<'_>,
     ) -> Result<(), AllocError> {
         for reference in references(alloc, place.reading, place.value)? {
             if let Some(text) = reference.text {
-                if !is_mapped_name(root, reference.under, text) {
+                let is_mapped = reference.under == Under::Mapping;
+                if !(is_mapped && is_name(workspace, document, text)) {
                     self.add_reference(alloc, document, place, text)?;
                 }
             }
@@ -748,16 +777,25 @@ impl<'d> Description<'d> {
     }
 }
 
-// Whether a text of a mapping is the name of a schema among the components of a document.
-fn is_mapped_name(root: Option<&Value>, under: Under, text: &str) -> bool {
-    let Some(root) = root else {
-        return false;
-    };
-    if under != Under::Mapping {
-        return false;
+// Whether a text of a mapping is the name of a schema: of the description that it is in, or, in a document that is none, of any.
+fn is_name(workspace: &Workspace, document: usize, text: &str) -> bool {
+    let own = workspace.value(document);
+    if own.is_some_and(is_description) {
+        return own.is_some_and(|root| has_schema(root, text));
     }
+    for number in 0..workspace.len() {
+        let other = workspace.value(number);
+        if other.is_some_and(|root| is_description(root) && has_schema(root, text)) {
+            return true;
+        }
+    }
+    false
+}
+
+// Whether a description has a schema of this name among its components.
+fn has_schema(root: &Value, name: &str) -> bool {
     match root.pointer("/components/schemas") {
-        Some(schemas) => schemas.get(text).is_some(),
+        Some(schemas) => schemas.get(name).is_some(),
         None => false,
     }
 }

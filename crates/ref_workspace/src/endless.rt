@@ -1,22 +1,21 @@
 //! References that come back to where they began without a step into the value that is validated.
 use crate::described::{owned, pointer_at, texts_at};
 use crate::finding::{Finding, Problem, push as push_finding};
-use crate::heads::{Application, applied};
 use crate::pointer::path_to;
 use crate::workspace::Workspace;
 use ref_descriptions::{Reference, Under, references};
 use ref_draft::Draft;
+use ref_graphs::{Lead, Round, rounds_of};
 use ref_index::meanings::text_under;
 use ref_index::segments_of;
-use ref_parts::path::JsonPointerSegment;
 use ref_parts::pointer_of;
 use ref_reach::{Documents, Place, Target, target};
-use ref_rules::{Circle, Step, circles_of};
+use ref_rules::in_place;
 use serde_json::Value;
 use std::alloc::{AllocError, Global};
 use std::collections::{BTreeMap, BTreeSet};
 
-// How many places of a circle a message names at most.
+// How many places of a round a message names at most, but for the one that is both its first and its last.
 const MOST_NAMES: usize = 4;
 
 /// A reference of a schema, and what it leads to, by the numbers of documents and pointers.
@@ -107,73 +106,29 @@ fn is_plain(keyword: &str, value: &Value) -> bool {
     }
 }
 
-// What is applied to the same value: the places that references lead to, by their numbers, and the steps among these, each with the number of its
-// reference.
+// The numbers of the places that references lead to, in the order in which they are met.
 #[derive(Drop)]
-struct Applying {
+struct Targets {
     numbers: BTreeMap<String, usize>,
-    // A reference that leads to each.
-    leads: Vec<usize>,
-    steps: Vec<Step>,
-    by: Vec<usize>,
 }
 
 fn key_of(alloc: Global, document: usize, pointer: &str) -> Result<String, AllocError> {
     format!(in alloc; "{document} {pointer}")
 }
 
-fn applying_of(
-    alloc: Global,
-    workspace: &Workspace,
-    links: &[Link],
-) -> Result<Applying, AllocError> {
-    let mut applying = Applying {
-        numbers: BTreeMap::new(alloc),
-        leads: Vec::new(alloc),
-        steps: Vec::new(alloc),
-        by: Vec::new(alloc),
-    };
-    for (number, link) in links.iter().enumerate() {
-        applying.add_target(alloc, number, link)?;
-    }
-    for (number, link) in links.iter().enumerate() {
-        applying.add_steps(alloc, workspace, number, link)?;
-    }
-    Ok(applying)
-}
-
-impl Applying {
-    fn add_target(&mut self, alloc: Global, number: usize, link: &Link) -> Result<(), AllocError> {
-        let key = key_of(alloc, link.to_document, link.to.as_str())?;
-        if !self.numbers.contains_key(key.as_str()) {
-            let place = self.leads.len();
-            self.numbers.insert(key, place)?;
-            self.leads.push(number)?;
+impl Targets {
+    // The number of a place, which it gets where it has none.
+    fn add(&mut self, alloc: Global, document: usize, pointer: &str) -> Result<usize, AllocError> {
+        let key = key_of(alloc, document, pointer)?;
+        if let Some(number) = self.numbers.get(key.as_str()) {
+            return Ok(*number);
         }
-        Ok(())
+        let number = self.numbers.len();
+        self.numbers.insert(key, number)?;
+        Ok(number)
     }
 
-    // Adds a step from each place whose value the reference is still applied to.
-    fn add_steps(
-        &mut self,
-        alloc: Global,
-        workspace: &Workspace,
-        number: usize,
-        link: &Link,
-    ) -> Result<(), AllocError> {
-        let Some(to) = self.number(alloc, link.to_document, link.to.as_str())? else {
-            return Ok(());
-        };
-        for end in applied_ends(alloc, workspace, link)? {
-            let front = link.from.as_str().get(..end).unwrap_or("");
-            if let Some(from) = self.number(alloc, link.document, front)? {
-                self.steps.push(Step { from, to })?;
-                self.by.push(number)?;
-            }
-        }
-        Ok(())
-    }
-
+    // The number of a place, where a reference leads to it.
     fn number(
         &self,
         alloc: Global,
@@ -183,11 +138,45 @@ impl Applying {
         let key = key_of(alloc, document, pointer)?;
         Ok(self.numbers.get(key.as_str()).copied())
     }
+}
 
-    // The number of the reference of a step.
-    fn link_of(&self, step: usize) -> usize {
-        self.by.get(step).copied().unwrap_or(usize::MAX)
+// The rounds of references.
+fn rounds_among(
+    alloc: Global,
+    workspace: &Workspace,
+    links: &[Link],
+) -> Result<Vec<Round>, AllocError> {
+    let mut targets = Targets {
+        numbers: BTreeMap::new(alloc),
+    };
+    let mut tos = Vec::with_capacity(alloc, links.len())?;
+    for link in links {
+        let to = targets.add(alloc, link.to_document, link.to.as_str())?;
+        tos.push(to)?;
     }
+    let mut leads = Vec::with_capacity(alloc, links.len())?;
+    for (link, to) in links.iter().zip(tos.iter()) {
+        let fronts = fronts_of(alloc, workspace, &targets, link)?;
+        leads.push(Lead { fronts, to: *to })?;
+    }
+    rounds_of(alloc, targets.numbers.len(), leads.as_slice())
+}
+
+// The places from which the same value comes to a reference: of those that references lead to, since what none leads to is on no round.
+fn fronts_of(
+    alloc: Global,
+    workspace: &Workspace,
+    targets: &Targets,
+    link: &Link,
+) -> Result<Vec<usize>, AllocError> {
+    let mut fronts = Vec::new(alloc);
+    for end in applied_ends(alloc, workspace, link)? {
+        let front = link.from.as_str().get(..end).unwrap_or("");
+        if let Some(number) = targets.number(alloc, link.document, front)? {
+            fronts.push(number)?;
+        }
+    }
+    Ok(fronts)
 }
 
 // Where the pointer of a reference's place may end so that the place is applied to the same value: in bytes.
@@ -196,101 +185,28 @@ fn applied_ends(
     workspace: &Workspace,
     link: &Link,
 ) -> Result<Vec<usize>, AllocError> {
-    let root = workspace.value(link.document);
-    match path_to(alloc, root, link.from.as_str())? {
-        Some(path) => ends_in(alloc, root, link, path.as_slice()),
-        None => Ok(Vec::new(alloc)),
-    }
-}
-
-fn ends_in(
-    alloc: Global,
-    root: Option<&Value>,
-    link: &Link,
-    path: &[JsonPointerSegment<'_>],
-) -> Result<Vec<usize>, AllocError> {
-    let mut ends = Vec::new(alloc);
-    let mut value = root;
-    let mut length: usize = 0;
-    // How many more steps the keyword takes that was met last, and whether what is below it is applied to the same value.
-    let mut left: usize = 0;
-    let mut is_same = false;
-    for (segment, part) in path.iter().zip(link.from.as_str().split('/').skip(1)) {
-        if left == 0 {
-            push_end(&mut ends, length, is_same)?;
-            let (steps, is_applied) = steps_below(value, link.draft, segment);
-            left = steps;
-            is_same = is_applied;
-        }
-        left = left.saturating_sub(1);
-        length = length.saturating_add(part.len()).saturating_add(1);
-        value = below(value, segment);
-    }
-    push_end(&mut ends, length, is_same)?;
-    Ok(ends)
-}
-
-// Adds an end, in place of all others where what is there isn't applied to the same value.
-fn push_end(ends: &mut Vec<usize>, end: usize, is_same: bool) -> Result<(), AllocError> {
-    if !is_same {
-        ends.clear();
-    }
-    ends.push(end)?;
-    Ok(())
-}
-
-fn below<'v>(value: Option<&'v Value>, segment: &JsonPointerSegment<'_>) -> Option<&'v Value> {
-    match segment {
-        JsonPointerSegment::Key(key) => value?.get(key.as_str()),
-        JsonPointerSegment::Index(index) => value?.get(*index),
-    }
-}
-
-// How many steps there are from a schema to the schema below a keyword, and whether that is applied to the same value.
-fn steps_below(
-    value: Option<&Value>,
-    draft: Draft,
-    segment: &JsonPointerSegment<'_>,
-) -> (usize, bool) {
-    let (Some(value), JsonPointerSegment::Key(keyword)) = (value, segment) else {
-        return (1, false);
+    let Some(root) = workspace.value(link.document) else {
+        return Ok(Vec::new(alloc));
     };
-    let keyword = keyword.as_str();
-    let is_read = !is_ignored(value, draft, keyword);
-    match applied(keyword) {
-        Application::Once => (1, is_read),
-        Application::Each | Application::Named => (2, is_read),
-        Application::No => (steps_of(value, keyword), false),
-    }
+    let Some(path) = path_to(alloc, Some(root), link.from.as_str())? else {
+        return Ok(Vec::new(alloc));
+    };
+    let flags = in_place(alloc, link.draft, root, path.as_slice())?;
+    flagged_ends(alloc, link.from.as_str(), flags.as_slice())
 }
 
-// Whether a keyword counts for nothing: beside a `$ref` of an earlier draft, without an `if`, or where the draft doesn't have it.
-fn is_ignored(value: &Value, draft: Draft, keyword: &str) -> bool {
-    match draft {
-        Draft::Draft4 | Draft::Draft6 | Draft::Draft7 if text_under(value, "$ref").is_some() =>
-            true,
-        _ if !has(draft, keyword) => true,
-        _ => matches!(keyword, "then" | "else") && value.get("if").is_none(),
+// Where those beginnings of a pointer end that have a flag, in bytes: the first one is empty, and each other one has a part more.
+fn flagged_ends(alloc: Global, pointer: &str, flags: &[bool]) -> Result<Vec<usize>, AllocError> {
+    let mut ends = Vec::new(alloc);
+    let mut length: usize = 0;
+    for (flag, part) in flags.iter().zip(pointer.split('/')) {
+        length = length.saturating_add(part.len());
+        if *flag {
+            ends.push(length)?;
+        }
+        length = length.saturating_add(1);
     }
-}
-
-// Whether a draft has a keyword, of those by which schemas are applied to the same value.
-fn has(draft: Draft, keyword: &str) -> bool {
-    match keyword {
-        "if" | "then" | "else" => !matches!(draft, Draft::Draft4 | Draft::Draft6),
-        "dependentSchemas" => !matches!(draft, Draft::Draft4 | Draft::Draft6 | Draft::Draft7),
-        "dependencies" => matches!(draft, Draft::Draft4 | Draft::Draft6 | Draft::Draft7),
-        _ => true,
-    }
-}
-
-// How many steps there are below a keyword that is applied to another value, or to none.
-fn steps_of(value: &Value, keyword: &str) -> usize {
-    match keyword {
-        "properties" | "patternProperties" | "$defs" | "definitions" | "prefixItems" => 2,
-        "items" if value.get("items").is_some_and(Value::is_array) => 2,
-        _ => 1,
-    }
+    Ok(ends)
 }
 
 /// Adds which of these references come back to where they began. Fails only if out of memory. Linear, but for sorting.
@@ -300,14 +216,13 @@ pub(crate) fn add_endless<'d>(
     links: &[Link],
     list: &mut Vec<Finding<'d>>,
 ) -> Result<(), AllocError> {
-    let applying = applying_of(alloc, workspace, links)?;
-    let circles = circles_of(alloc, applying.leads.len(), applying.steps.as_slice())?;
+    let rounds = rounds_among(alloc, workspace, links)?;
     let mut seen = BTreeSet::new(alloc);
-    for circle in circles {
-        if let Some(link) = link_on(workspace, links, &applying, &circle) {
+    for round in rounds {
+        if let Some(link) = link_on(workspace, links, &round) {
             let key = key_of(alloc, link.document, link.from.as_str())?;
             if seen.insert(key)? {
-                let around = around(alloc, workspace, links, &applying, (&circle, link.document))?;
+                let around = around(alloc, workspace, links, &round, link.document)?;
                 push_endless(alloc, workspace, link, around, list)?;
             }
         }
@@ -315,50 +230,53 @@ pub(crate) fn add_endless<'d>(
     Ok(())
 }
 
-// The reference of a circle that is told of: the last one that is in a document that is asked about, of those that come back and of a few before.
-fn link_on<'l>(
-    workspace: &Workspace,
-    links: &'l [Link],
-    applying: &Applying,
-    circle: &Circle,
-) -> Option<&'l Link> {
-    for step in circle.steps.iter().rev().take(1000) {
-        if let Some(link) = links.get(applying.link_of(*step)) {
-            if link.document < workspace.asked() {
-                return Some(link);
-            }
+// The reference of a round that is told of: the last one that is in a document that is asked about, of the one that closes it and of a few before.
+fn link_on<'l>(workspace: &Workspace, links: &'l [Link], round: &Round) -> Option<&'l Link> {
+    if let Some(link) = asked_link(workspace, links, round.closing) {
+        return Some(link);
+    }
+    for lead in round.leads.iter().rev().take(1000) {
+        if let Some(link) = asked_link(workspace, links, *lead) {
+            return Some(link);
         }
     }
     None
 }
 
-// The places of a circle, as a text.
+// The reference with a number, where it is in a document that is asked about.
+fn asked_link<'l>(workspace: &Workspace, links: &'l [Link], number: usize) -> Option<&'l Link> {
+    let link = links.get(number)?;
+    if link.document < workspace.asked() {
+        return Some(link);
+    }
+    None
+}
+
+// The places of a round, as a text: at most four between the first and the last, which are the same.
 fn around(
     alloc: Global,
     workspace: &Workspace,
     links: &[Link],
-    applying: &Applying,
-    (circle, own): (&Circle, usize),
+    round: &Round,
+    own: usize,
 ) -> Result<String, AllocError> {
     let mut text = String::new(alloc);
-    let last = circle.steps.len().saturating_sub(1);
-    if let Some(link) = circle
-        .steps
-        .last()
-        .and_then(|s| links.get(applying.link_of(*s)))
-    {
-        push_name(&mut text, workspace, link, own)?;
-    }
-    for (number, step) in circle.steps.iter().enumerate() {
-        if number < MOST_NAMES || number == last {
-            if let Some(link) = links.get(applying.link_of(*step)) {
-                text.push_str(" -> ")?;
-                push_name(&mut text, workspace, link, own)?;
-            }
-        } else if number == MOST_NAMES {
-            text.push_str(" -> ...")?;
+    let Some(closing) = links.get(round.closing) else {
+        return Ok(text);
+    };
+    push_name(&mut text, workspace, closing, own)?;
+    let between = round.size.saturating_sub(1);
+    for lead in round.leads.iter().take(between.min(MOST_NAMES)) {
+        if let Some(link) = links.get(*lead) {
+            text.push_str(" -> ")?;
+            push_name(&mut text, workspace, link, own)?;
         }
     }
+    if between > MOST_NAMES {
+        text.push_str(" -> ...")?;
+    }
+    text.push_str(" -> ")?;
+    push_name(&mut text, workspace, closing, own)?;
     Ok(text)
 }
 

@@ -1,8 +1,9 @@
-//! Whether references may lead to what is no schema, by the names of members alone.
+//! Whether references may lead to what is no schema, or to where no keyword does, by the names of members alone.
 use crate::described::Described;
 use crate::placed::{is_reference, push_below};
 use crate::workspace::Workspace;
-use serde_json::Value;
+use ref_draft::{Draft, Reached};
+use serde_json::{Map, Value};
 use std::alloc::{AllocError, Global};
 
 /// The members of documents that may be references, and the last names of their pointers.
@@ -16,6 +17,12 @@ pub(crate) struct Ends<'d> {
     table: Vec<bool>,
     // Whether one leads to an item of an array, or has a name with an escape.
     is_open: bool,
+    // The pointers after the `#` of references.
+    pointers: Vec<&'d str>,
+    // The drafts by which schemas are read.
+    drafts: Vec<Draft>,
+    // Whether an object has a `$ref` and beside it what would hold schemas: in Drafts 4 to 7 no keyword leads there.
+    has_beside: bool,
 }
 
 /// Those of documents that are asked about and are no descriptions. A step for each value.
@@ -29,7 +36,15 @@ pub(crate) fn ends_of<'d>(
         names: Vec::new(alloc),
         table: vec![in alloc; false; 65_536]?,
         is_open: false,
+        pointers: Vec::new(alloc),
+        drafts: Vec::new(alloc),
+        has_beside: false,
     };
+    for number in 0..workspace.len() {
+        if let (true, Some(value)) = (described.has(number), workspace.value(number)) {
+            ends.note(workspace.draft().detect(value))?;
+        }
+    }
     for (number, document) in workspace.asked_about().iter().enumerate() {
         if described.is_plain_at(number) {
             if let Some(value) = document.value() {
@@ -51,15 +66,51 @@ impl<'d> Ends<'d> {
                 break;
             };
             if let Some(members) = value.as_object() {
-                for (key, member) in members.iter() {
-                    if is_reference(key.as_str()) {
-                        self.add(member)?;
-                    }
-                }
+                self.add_object(members)?;
             }
             push_below(&mut waiting, value)?;
         }
         Ok(())
+    }
+
+    fn add_object(&mut self, members: &'d Map<String, Value>) -> Result<(), AllocError> {
+        let mut has_reference = false;
+        for (key, member) in members.iter() {
+            if is_reference(key.as_str()) {
+                self.add(member)?;
+                has_reference = true;
+            } else if key.as_str() == "$schema" {
+                self.note(Draft::from_schema_uri(member.as_str().unwrap_or("")))?;
+            }
+        }
+        if has_reference && holds_schemas(members) {
+            self.has_beside = true;
+        }
+        Ok(())
+    }
+
+    // Notes a draft.
+    fn note(&mut self, draft: Draft) -> Result<(), AllocError> {
+        if !is_among(self.drafts.as_slice(), draft) {
+            self.drafts.push(draft)?;
+        }
+        Ok(())
+    }
+
+    /// Whether one may lead to where no keyword does: by its pointer in one of the drafts, or since keywords beside a `$ref` lead nowhere. A step for each key of a
+    /// pointer.
+    pub(crate) fn may_be_elsewhere(&self) -> bool {
+        for draft in &self.drafts {
+            if self.has_beside && is_before_2019(*draft) {
+                return true;
+            }
+            for pointer in &self.pointers {
+                if !leads_to_schema(*draft, *pointer) {
+                    return true;
+                }
+            }
+        }
+        false
     }
 
     fn add(&mut self, member: &'d Value) -> Result<(), AllocError> {
@@ -70,6 +121,7 @@ impl<'d> Ends<'d> {
         let Some((_, name)) = fragment.rsplit_once('/') else {
             return Ok(());
         };
+        self.pointers.push(fragment)?;
         if name.contains(['%', '~']) || name.bytes().all(|byte| byte.is_ascii_digit()) {
             self.is_open = true;
         } else {
@@ -136,6 +188,46 @@ impl<'d> Ends<'d> {
     fn has(&self, name: &str) -> bool {
         let may = self.table.get(key_of(name)).copied().unwrap_or(false);
         may && self.names.binary_search(&name).is_ok()
+    }
+}
+
+fn is_among(drafts: &[Draft], draft: Draft) -> bool {
+    drafts.iter().any(|other| other.name() == draft.name())
+}
+
+// Whether a draft has no keywords beside a `$ref`.
+fn is_before_2019(draft: Draft) -> bool {
+    matches!(draft, Draft::Draft4 | Draft::Draft6 | Draft::Draft7)
+}
+
+// Whether a member of an object would hold schemas. (The table of Draft 4 has the keywords of all drafts before 2019-09.)
+fn holds_schemas(members: &Map<String, Value>) -> bool {
+    for (key, member) in members.iter() {
+        let is_large = member.is_object() || member.is_array();
+        if is_large
+            && !matches!(
+                Reached::Schema.key(Draft::Draft4, key.as_str()),
+                Reached::Other
+            )
+        {
+            return true;
+        }
+    }
+    false
+}
+
+// Whether the keywords of a draft lead from a schema along a pointer to another one. Below `items` and `dependencies` before 2020-12 that isn't looked at.
+fn leads_to_schema(draft: Draft, pointer: &str) -> bool {
+    let mut reached = Reached::Schema;
+    let mut is_last = true;
+    for key in pointer.split('/').skip(1) {
+        is_last = !matches!(reached, Reached::BelowItems);
+        reached = reached.key(draft, key);
+    }
+    match reached {
+        Reached::Schema => true,
+        Reached::BelowItems => is_last,
+        Reached::Schemas | Reached::Other => false,
     }
 }
 

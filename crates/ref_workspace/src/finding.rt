@@ -30,8 +30,19 @@ pub struct Report<'d> {
     pub descriptions: usize,
     /// How many places the descriptions have: objects, and what references lead to.
     pub places: usize,
+    /// How many places the other documents that are asked about have: those that keywords lead to, and what references lead to where none does.
+    pub schema_places: usize,
     /// The texts under a `$ref` that is in no place, in those documents that are asked about: nothing looks at them.
     pub unplaced: Vec<Unplaced<'d>>,
+}
+
+/// How much was looked at: places and their references.
+#[derive(Clone, Copy, Debug, Drop)]
+pub(crate) struct Amount {
+    /// How many places.
+    pub places: usize,
+    /// How many references.
+    pub references: usize,
 }
 
 /// Something that is wrong with a document, or a note on it.

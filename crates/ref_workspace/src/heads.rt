@@ -5,7 +5,7 @@
 //! where references come back, names do too.
 use crate::placed::is_reference;
 use crate::workspace::Workspace;
-use ref_rules::{Step, circles_of};
+use ref_graphs::{Step, circles_of};
 use ref_uri::Uri;
 use serde_json::{Map, Value};
 use std::alloc::{AllocError, Global};
@@ -313,21 +313,21 @@ fn each_once(alloc: Global, steps: Vec<(u64, u64)>) -> Result<Vec<(u64, u64)>, A
     Ok(list)
 }
 
-/// How what is under a keyword is applied to the value that the schema around it is.
+// How what is under a keyword is applied to the value that the schema around it is.
 #[derive(Clone, Copy, PartialEq, Eq)]
-pub(crate) enum Application {
-    /// It is not, or to what is in the value.
+enum Application {
+    // It is not, or to what is in the value.
     No,
-    /// As one schema.
+    // As one schema.
     Once,
-    /// Each item of a list.
+    // Each item of a list.
     Each,
-    /// Each member of an object.
+    // Each member of an object.
     Named,
 }
 
-/// How what is under a keyword is applied (2020-12 Core, 10.2), where the draft has it.
-pub(crate) fn applied(keyword: &str) -> Application {
+// How what is under a keyword is applied (2020-12 Core, 10.2), where the draft has it.
+fn applied(keyword: &str) -> Application {
     match keyword {
         "allOf" | "anyOf" | "oneOf" => Application::Each,
         "not" | "if" | "then" | "else" => Application::Once,

@@ -5,7 +5,7 @@ use crate::described::{
     pointer_at,
 };
 use crate::ends::ends_of;
-use crate::finding::Finding;
+use crate::finding::{Amount, Finding};
 use crate::leads::{NoSchema, add_no_schema, no_schemas_in};
 use crate::workspace::Workspace;
 use ref_descriptions::references;
@@ -15,17 +15,21 @@ use std::alloc::{AllocError, Global};
 use std::collections::BTreeSet;
 
 /// Adds what is wrong with the references of what schemas lead to where no keyword does, in documents that are asked about; and returns
-/// how many references there are; and which references of schemas lead to objects of another kind in descriptions. `references` is how many their
-/// own places have: where no more are in the documents, and there are no descriptions, nothing is looked for. Fails only if out of memory.
+/// how many places and references there are; and which references of schemas lead to objects of another kind in descriptions. `references` is how many their
+/// own places have: where no more are in the documents, none of them may lead to where no keyword does, and there are no descriptions, nothing is looked for. Fails
+/// only if out of memory.
 pub(crate) fn add_led<'d>(
     alloc: Global,
     workspace: &'d Workspace,
     references: usize,
     described: &mut Described,
     list: &mut Vec<Finding<'d>>,
-) -> Result<usize, AllocError> {
+) -> Result<Amount, AllocError> {
     let ends = ends_of(alloc, workspace, &*described)?;
-    let is_any = described.is_led || described.is_any() || ends.count != references;
+    let is_any = described.is_led
+        || described.is_any()
+        || ends.count != references
+        || ends.may_be_elsewhere();
     described.is_led = is_any;
     for number in 0..workspace.asked() {
         described.look_at(number, is_any);
@@ -34,11 +38,11 @@ pub(crate) fn add_led<'d>(
         && described.links.is_none()
         && !ends.may_be_no_schema(alloc, workspace, &*described)?
     {
-        return Ok(0);
+        return Ok(NOTHING);
     }
     let Led {
         faults,
-        references,
+        amount,
         no_schemas,
     } = led_of(alloc, workspace, described, is_any)?;
     for fault in faults {
@@ -47,8 +51,13 @@ pub(crate) fn add_led<'d>(
     for found in no_schemas {
         add_no_schema(workspace, found, list)?;
     }
-    Ok(references)
+    Ok(amount)
 }
+
+const NOTHING: Amount = Amount {
+    places: 0,
+    references: 0,
+};
 
 /// The URIs of documents that references of what schemas lead to point into and that aren't there, in the order in which they are met; a URI
 /// may come more than once. Fails only if out of memory.
@@ -84,12 +93,12 @@ fn missing_in(
     Ok(uris)
 }
 
-// What is wrong with the references of what schemas lead to, and how many of these are in documents that are asked about; and which references of
+// What is wrong with the references of what schemas lead to, and how much of that is in documents that are asked about; and which references of
 // schemas and of what they lead to lead to what is no schema.
 #[derive(Drop)]
 struct Led<'d> {
     faults: Vec<Fault<'d>>,
-    references: usize,
+    amount: Amount,
     no_schemas: Vec<NoSchema<'d>>,
 }
 
@@ -130,7 +139,7 @@ fn led_by<'d>(
     }
     Ok(Led {
         faults: Vec::new(alloc),
-        references: 0,
+        amount: NOTHING,
         no_schemas,
     })
 }
@@ -171,7 +180,7 @@ fn led_among<'d, 'r>(
     let own = schemas.places();
     described.placed.add_all(alloc, asked, numbers, own)?;
     let places = reached.places.as_slice();
-    let references = references_in(alloc, asked, numbers, places, described)?;
+    let amount = amount_in(alloc, asked, numbers, places, described)?;
     no_schemas_in(alloc, asked, numbers, documents, places, &mut no_schemas)?;
     described.add_links(alloc, numbers, documents, places)?;
     described.add_told(alloc, asked, numbers, places)?;
@@ -179,20 +188,20 @@ fn led_among<'d, 'r>(
     let faults = each_once(alloc, faults)?;
     Ok(Led {
         faults,
-        references,
+        amount,
         no_schemas,
     })
 }
 
-// Notes which texts are in these places, and returns how many references those have that are in documents that are asked about, of each once.
-fn references_in(
+// Notes which texts are in these places, and returns how many of them are in documents that are asked about, each once, and how many references these have.
+fn amount_in(
     alloc: Global,
     asked: usize,
     numbers: &[usize],
     places: &[Place<'_>],
     described: &mut Described,
-) -> Result<usize, AllocError> {
-    let mut count: usize = 0;
+) -> Result<Amount, AllocError> {
+    let mut amount = NOTHING;
     let mut seen = BTreeSet::new(alloc);
     for place in places {
         let number = numbers.get(place.document).copied().unwrap_or(usize::MAX);
@@ -200,11 +209,12 @@ fn references_in(
             described.placed.add(alloc, number, place)?;
             if seen.insert((number, pointer_at(alloc, place)?))? {
                 let references = references(alloc, place.reading, place.value)?;
-                count = count.saturating_add(references.len());
+                amount.references = amount.references.saturating_add(references.len());
+                amount.places = amount.places.saturating_add(1);
             }
         }
     }
-    Ok(count)
+    Ok(amount)
 }
 
 /// Adds what schemas lead to where no keyword does, with the references of these places. Fails only if out of memory.

@@ -16,6 +16,7 @@ mod ends;
 mod finding;
 pub mod follow;
 mod heads;
+mod identified;
 mod leads;
 mod led;
 mod members;

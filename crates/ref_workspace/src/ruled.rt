@@ -9,7 +9,9 @@ use ref_findings::{Finding as SchemaFinding, Problem as SchemaProblem};
 use ref_index::meanings::text_under;
 use ref_parts::path::JsonPointerSegment;
 use ref_reach::Place as Reached;
-use ref_rules::{Place, Problem as ToldProblem, Slip, misspelled, slips};
+use ref_rules::{
+    Place, Problem as ToldProblem, Slip, Spot, may_slip, misspelled, places_of, slips, spots_of,
+};
 use serde_json::Value;
 use std::alloc::{AllocError, Global};
 use std::collections::BTreeSet;
@@ -45,16 +47,6 @@ fn is_misspelled(alloc: Global, finding: &SchemaFinding<'_>) -> Result<bool, All
     }
 }
 
-// A place where a schema is: the number of the place above it, and the keyword and segment that lead from there.
-#[derive(Drop)]
-struct Spot<'d> {
-    above: usize,
-    keyword: Option<&'d str>,
-    segment: Option<JsonPointerSegment<'d>>,
-    draft: Draft,
-    value: &'d Value,
-}
-
 /// Adds what is told of the keywords of schemas, of those documents that are asked about and are no parts of descriptions. Fails only if out of
 /// memory.
 pub(crate) fn add_told<'d>(
@@ -85,30 +77,16 @@ fn add_of<'d>(
         return Ok(());
     }
     let spots = spots_of(alloc, draft, value)?;
-    let numbers = suspects_in(alloc, spots.as_slice())?;
-    let places = places_of(alloc, spots.as_slice(), numbers.as_slice())?;
+    let places = places_of(alloc, spots.as_slice())?;
     for slip in slips(alloc, places.as_slice())? {
-        if let Some(place) = numbers.get(slip.place).copied() {
-            push_told(
-                alloc,
-                number,
-                spots.as_slice(),
-                Slip { place, ..slip },
-                list,
-            )?;
-        }
+        push_told(alloc, number, spots.as_slice(), slip, list)?;
     }
     Ok(())
 }
 
-// Whether a document may have what is told of: its own `$schema` isn't the URI of its draft, or a value in it, at any depth, may be told of, were it a schema. A
-// step for each value.
+// Whether a document may have what is told of: it may be of its root, or of a value in it, at any depth, were it a schema of the draft of the root. A step for
+// each value.
 fn may_be_told(alloc: Global, draft: Draft, root: &Value) -> Result<bool, AllocError> {
-    if let Some(text) = text_under(root, "$schema") {
-        if misspelled(alloc, text)?.is_some() {
-            return Ok(true);
-        }
-    }
     let draft = draft.detect(root);
     let mut is_root = true;
     let mut waiting = Vec::new(alloc);
@@ -117,151 +95,18 @@ fn may_be_told(alloc: Global, draft: Draft, root: &Value) -> Result<bool, AllocE
         let Some(value) = waiting.pop() else {
             break;
         };
-        if is_suspect(value, draft, is_root) {
+        let place = Place {
+            is_root,
+            draft,
+            value,
+        };
+        if may_slip(place) {
             return Ok(true);
         }
         is_root = false;
         push_values(&mut waiting, value)?;
     }
     Ok(false)
-}
-
-// Whether something may be told of a value, were it a schema of a draft, beside how a `$schema` at a root is spelled: it has a `$schema` and is no root, a keyword
-// that another draft has, or, in an earlier one, a `$ref` with others beside it.
-fn is_suspect(value: &Value, draft: Draft, is_root: bool) -> bool {
-    let Some(members) = value.as_object() else {
-        return false;
-    };
-    for (key, _) in members.iter() {
-        let is_here = match key.as_str() {
-            "$ref" => is_earlier(draft) && members.len() > 1,
-            "$schema" => !is_root,
-            key => is_of_others(key, draft),
-        };
-        if is_here {
-            return true;
-        }
-    }
-    false
-}
-
-// Whether another draft has a keyword, and this one doesn't. Most keywords are told apart by their first letters.
-fn is_of_others(key: &str, draft: Draft) -> bool {
-    match key.as_bytes() {
-        [b'$', ..] => is_core_of_others(key, draft),
-        [b'c' | b'd' | b'e' | b't' | b'i' | b'p', ..] => is_applied_of_others(key, draft),
-        [b'm' | b'u', ..] => is_earlier(draft) && is_counted(key),
-        _ => false,
-    }
-}
-
-// The same of those that begin with `$`.
-fn is_core_of_others(key: &str, draft: Draft) -> bool {
-    match key {
-        "$id" => draft == Draft::Draft4,
-        "$anchor" => is_earlier(draft),
-        "$recursiveRef" | "$recursiveAnchor" => draft != Draft::Draft201909,
-        "$dynamicRef" | "$dynamicAnchor" => draft != Draft::Draft202012,
-        _ => false,
-    }
-}
-
-// The same of `id` and of those that have schemas in them.
-fn is_applied_of_others(key: &str, draft: Draft) -> bool {
-    match key {
-        "id" => draft != Draft::Draft4,
-        "const" | "contains" | "propertyNames" => draft == Draft::Draft4,
-        "if" | "then" | "else" => matches!(draft, Draft::Draft4 | Draft::Draft6),
-        "contentSchema" | "dependentRequired" | "dependentSchemas" => is_earlier(draft),
-        "prefixItems" => draft != Draft::Draft202012,
-        _ => false,
-    }
-}
-
-// Whether a keyword is one that the drafts have from 2019-09 on, of those that begin with `m` or `u`.
-fn is_counted(key: &str) -> bool {
-    matches!(
-        key,
-        "maxContains" | "minContains" | "unevaluatedItems" | "unevaluatedProperties"
-    )
-}
-
-fn is_earlier(draft: Draft) -> bool {
-    matches!(draft, Draft::Draft4 | Draft::Draft6 | Draft::Draft7)
-}
-
-// The places of a document, each after the one above it.
-fn spots_of<'d>(
-    alloc: Global,
-    draft: Draft,
-    value: &'d Value,
-) -> Result<Vec<Spot<'d>>, AllocError> {
-    let mut spots = Vec::new(alloc);
-    spots.push(Spot {
-        above: 0,
-        keyword: None,
-        segment: None,
-        draft: draft.detect(value),
-        value,
-    })?;
-    for number in 0..usize::MAX {
-        if !push_below(alloc, &mut spots, number)? {
-            return Ok(spots);
-        }
-    }
-    Err(AllocError)
-}
-
-// Adds the places right below the one with a number; says whether there is such a place.
-fn push_below<'d>(
-    alloc: Global,
-    spots: &mut Vec<Spot<'d>>,
-    number: usize,
-) -> Result<bool, AllocError> {
-    let Some(spot) = spots.get(number) else {
-        return Ok(false);
-    };
-    for child in spot.draft.walk_children(alloc, spot.value)? {
-        spots.push(Spot {
-            above: number,
-            keyword: Some(child.keyword),
-            segment: child.segment,
-            draft: child.draft,
-            value: child.value,
-        })?;
-    }
-    Ok(true)
-}
-
-// The numbers of those places that something may be told of.
-fn suspects_in(alloc: Global, spots: &[Spot<'_>]) -> Result<Vec<usize>, AllocError> {
-    let mut numbers = Vec::new(alloc);
-    for (number, spot) in spots.iter().enumerate() {
-        let is_root = spot.keyword.is_none();
-        if is_root || is_suspect(spot.value, spot.draft, is_root) {
-            numbers.push(number)?;
-        }
-    }
-    Ok(numbers)
-}
-
-// The places with these numbers.
-fn places_of<'d>(
-    alloc: Global,
-    spots: &[Spot<'d>],
-    numbers: &[usize],
-) -> Result<Vec<Place<'d>>, AllocError> {
-    let mut places = Vec::with_capacity(alloc, numbers.len())?;
-    for number in numbers {
-        if let Some(spot) = spots.get(*number) {
-            places.push(Place {
-                is_root: spot.keyword.is_none(),
-                draft: spot.draft,
-                value: spot.value,
-            })?;
-        }
-    }
-    Ok(places)
 }
 
 // The path to a place.
@@ -321,23 +166,21 @@ pub(crate) fn add_told_at(
     reached: &[Reached<'_>],
     list: &mut Vec<ToldAt>,
 ) -> Result<(), AllocError> {
-    let mut suspects = Vec::new(alloc);
+    let mut read = Vec::new(alloc);
     let mut places = Vec::new(alloc);
     for (number, place) in reached.iter().enumerate() {
         let document = numbers.get(place.document).copied().unwrap_or(usize::MAX);
-        let draft = place.reading.draft;
-        let is_read = document < asked && place.reading.is_by_draft();
-        if is_read && is_suspect(place.value, draft, true) {
-            suspects.push(number)?;
+        if document < asked && place.reading.is_by_draft() {
+            read.push(number)?;
             places.push(Place {
                 is_root: true,
-                draft,
+                draft: place.reading.draft,
                 value: place.value,
             })?;
         }
     }
     for slip in slips(alloc, places.as_slice())? {
-        let at = suspects.get(slip.place).copied().unwrap_or(usize::MAX);
+        let at = read.get(slip.place).copied().unwrap_or(usize::MAX);
         if let Some(place) = reached.get(at) {
             list.push(ToldAt {
                 document: numbers.get(place.document).copied().unwrap_or(usize::MAX),
@@ -364,7 +207,7 @@ pub(crate) fn add_beside_at(
     for place in places {
         let document = numbers.get(place.document).copied().unwrap_or(usize::MAX);
         let is_schema = place.reading.kind == Kind::Schema && !place.reading.is_by_draft();
-        if document < asked && is_schema && is_suspect(place.value, Draft::Draft4, true) {
+        if document < asked && is_schema {
             add_beside(alloc, document, place, list)?;
         }
     }

@@ -7,17 +7,19 @@ use crate::workspace::{Document, Workspace};
 use ref_files::Format;
 use ref_parts::path::JsonPointerSegment;
 use ref_parts::pointer_of;
+use ref_yaml::{Document as Yaml, Event, Kind, Stop};
 use serde_json::Value;
 use std::alloc::{AllocError, Global};
 use std::collections::{BTreeMap, BTreeSet};
 
-// How a comment begins that silences rules.
-const BEGIN: &str = "patchsard: ignore ";
+// How a comment begins that silences rules; a blank, a colon or nothing follows.
+const BEGIN: &str = "patchsard: ignore";
 
-// A comment of YAML that silences rules: the number of its line, from 1, and whether it is alone there.
+// A comment of YAML that silences rules: the line and the column of its mark, from 1, whether it is alone on the line, and its text.
 #[derive(Clone, Copy, Drop)]
 struct Comment<'d> {
     line: usize,
+    column: usize,
     is_alone: bool,
     text: &'d str,
 }
@@ -31,7 +33,7 @@ pub struct UnusedSilence<'d> {
     pub keyword: Option<&'static str>,
     /// What it says.
     pub text: &'d str,
-    /// The first rule that it names and that there isn't.
+    /// The first rule that it names and that there isn't; empty where it names none.
     pub unknown: Option<&'d str>,
 }
 
@@ -222,21 +224,18 @@ impl<'d> Silences<'d> {
         source: usize,
         text: &'d str,
     ) -> Result<(), AllocError> {
-        for (index, line) in text.split('\n').enumerate() {
-            let number = index.saturating_add(1);
-            if let Some((before, comment)) = split_comment(line) {
-                let unknown = unknown_in(comment);
-                let key = format!(in self.alloc; "{number}")?;
-                if unknown.is_some() || !self.is_used(source, key.as_str())? {
-                    let column = before.chars().count().saturating_add(1);
-                    let unused = UnusedSilence {
-                        pointer: String::new(self.alloc),
-                        keyword: None,
-                        text: comment,
-                        unknown,
-                    };
-                    list.insert((source, number, column), unused)?;
-                }
+        for comment in comments_of(self.alloc, text)? {
+            let unknown = unknown_in(comment.text);
+            let line = comment.line;
+            let key = format!(in self.alloc; "{line}")?;
+            if unknown.is_some() || !self.is_used(source, key.as_str())? {
+                let unused = UnusedSilence {
+                    pointer: String::new(self.alloc),
+                    keyword: None,
+                    text: comment.text,
+                    unknown,
+                };
+                list.insert((source, line, comment.column), unused)?;
             }
         }
         Ok(())
@@ -272,7 +271,10 @@ fn comment_of(value: &Value) -> Option<&str> {
 }
 
 fn is_silence(comment: &str) -> bool {
-    comment.starts_with(BEGIN)
+    match comment.strip_prefix(BEGIN) {
+        Some(rest) => rest.is_empty() || rest.starts_with([' ', ':']),
+        None => false,
+    }
 }
 
 // Whether a comment silences a rule.
@@ -282,16 +284,17 @@ fn is_meant_by(comment: &str, code: &str) -> bool {
 
 // The names of rules in a comment that silences some, with commas between them; nothing of another one.
 fn names_in(comment: &str) -> &str {
-    let Some(rest) = comment.strip_prefix(BEGIN) else {
+    if !is_silence(comment) {
         return "";
-    };
+    }
+    let rest = comment.strip_prefix(BEGIN).unwrap_or("");
     match rest.split_once(':') {
         Some((names, _)) => names,
         None => rest,
     }
 }
 
-// The first name of a comment that is that of no rule.
+// The first name of a comment that is that of no rule; it is empty where there is no name.
 fn unknown_in(comment: &str) -> Option<&str> {
     for name in names_in(comment).split(',') {
         if !is_rule(name.trim()) {
@@ -324,19 +327,64 @@ fn depth_of(root: &Value, path: &[JsonPointerSegment<'_>], code: &str) -> Option
     found
 }
 
-// The comments of a text of YAML that silence rules, in its order.
+// The comments of a text of YAML that silence rules, in its order. What is in a scalar in quotes or in a block is none.
 fn comments_of(alloc: Global, text: &str) -> Result<Vec<Comment<'_>>, AllocError> {
     let mut list = Vec::new(alloc);
+    let scalars = scalars_in(alloc, text)?;
+    let mut start: usize = 0;
     for (index, line) in text.split('\n').enumerate() {
-        if let Some((before, text)) = split_comment(line) {
+        if let Some((before, text)) = split_comment(line, start, scalars.as_slice()) {
             list.push(Comment {
                 line: index.saturating_add(1),
+                column: before.chars().count().saturating_add(1),
                 is_alone: before.trim_start().is_empty(),
                 text,
             })?;
         }
+        start = start.saturating_add(line.len()).saturating_add(1);
     }
     Ok(list)
+}
+
+// Where the scalars of a text of YAML are in which a mark begins no comment, in its order; none where it is no YAML.
+fn scalars_in(alloc: Global, text: &str) -> Result<Vec<(usize, usize)>, AllocError> {
+    let mut scalars = Vec::new(alloc);
+    let document = match Yaml::parse(alloc, text) {
+        Ok(document) => document,
+        Err(Stop::Memory) => return Err(AllocError),
+        Err(Stop::At(..)) => return Ok(scalars),
+    };
+    for event in document.events() {
+        if let Some(scalar) = scalar_of(text, event) {
+            scalars.push(scalar)?;
+        }
+    }
+    scalars.sort_unstable();
+    Ok(scalars)
+}
+
+// Where a scalar is in which a mark begins no comment: one in quotes, and of one in a block the lines after its first (YAML 1.2.2, 7.3 and 8.1).
+fn scalar_of(text: &str, event: &Event) -> Option<(usize, usize)> {
+    match event.kind {
+        Kind::SingleQuoted | Kind::DoubleQuoted => Some((event.start, event.end)),
+        Kind::Literal | Kind::Folded => {
+            let head = text.get(event.start..event.end)?.find('\n')?;
+            Some((event.start.saturating_add(head), event.end))
+        }
+        _ => None,
+    }
+}
+
+// Whether an offset is in one of these, which are in their order.
+fn is_within(scalars: &[(usize, usize)], offset: usize) -> bool {
+    let before = match scalars.binary_search_by(|scalar| scalar.0.cmp(&offset)) {
+        Ok(number) => Some(number),
+        Err(number) => number.checked_sub(1),
+    };
+    match before {
+        Some(number) => scalars.get(number).is_some_and(|scalar| offset < scalar.1),
+        None => false,
+    }
 }
 
 // The comment on a line.
@@ -347,18 +395,23 @@ fn comment_at<'d>(comments: &[Comment<'d>], line: usize) -> Option<Comment<'d>> 
     comments.get(number).copied()
 }
 
-// A line of YAML before its comment that silences rules, and the comment without its mark. What is before it may have the mark too, as in a reference.
-fn split_comment(line: &str) -> Option<(&str, &str)> {
-    let mut start: usize = 0;
+// A line of YAML before its comment that silences rules, and the comment without its mark. What is before it may have the mark too, as in a reference. The line
+// begins at an offset of its text.
+fn split_comment<'d>(
+    line: &'d str,
+    start: usize,
+    scalars: &[(usize, usize)],
+) -> Option<(&'d str, &'d str)> {
+    let mut at: usize = 0;
     for _ in 0..line.len() {
-        let mark = start.saturating_add(line.get(start..)?.find('#')?);
+        let mark = at.saturating_add(line.get(at..)?.find('#')?);
         let before = line.get(..mark)?;
         let comment = line.get(mark.saturating_add(1)..)?.trim_start().trim_end();
         let is_begun = before.is_empty() || before.ends_with([' ', '\t']);
-        if is_begun && is_silence(comment) {
+        if is_begun && is_silence(comment) && !is_within(scalars, start.saturating_add(mark)) {
             return Some((before, comment));
         }
-        start = mark.saturating_add(1);
+        at = mark.saturating_add(1);
     }
     None
 }

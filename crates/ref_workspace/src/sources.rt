@@ -11,8 +11,9 @@ ghost use Rattle.ref_workspace.specs.Workspace.{as_source};
 use crate::cases::add_cases;
 use crate::described::{Described, add_described, is_among};
 use crate::endless::add_endless;
-use crate::finding::{Finding, Report, plain, push, push_all, push_plain};
+use crate::finding::{Amount, Finding, Report, plain, push, push_all, push_plain};
 use crate::heads::may_be_endless;
+use crate::identified::add_all_misnamed;
 use crate::led::add_led;
 use crate::members::add_repeated;
 use crate::ruled::{add_all_told_at, add_told, without_misspelled};
@@ -136,13 +137,13 @@ impl Workspace {
     }
 
     // Adds what is wrong with those documents that are asked about and aren't parts of descriptions, which references may still lead
-    // into; of those that are looked at. Returns how many references they have.
+    // into; of those that are looked at. Returns how many places and references they have.
     fn add_plain<'d>(
         &'d self,
         alloc: Global,
         described: &Described,
         list: &mut Vec<Finding<'d>>,
-    ) -> Result<usize, AllocError> {
+    ) -> Result<Amount, AllocError> {
         let mut own = Vec::new(alloc);
         let mut numbers = Vec::new(alloc);
         let mut others = Vec::new(alloc);
@@ -156,10 +157,13 @@ impl Workspace {
         }
         add_held(&mut others, self.held_documents())?;
         let report = report(alloc, self.draft(), own.as_slice(), others.as_slice())?;
-        let references = report.references;
+        let amount = Amount {
+            places: report.places,
+            references: report.references,
+        };
         let findings = without_misspelled(alloc, report.findings)?;
         push_plain(list, findings, numbers.as_slice())?;
-        Ok(references)
+        Ok(amount)
     }
 
     /// What is wrong with the documents that are asked about, whatever they are, and what is to be noted; and after it which
@@ -192,7 +196,7 @@ impl Workspace {
             described.links = Some(Vec::new(alloc));
         }
         let mut findings = Vec::new(alloc);
-        let (references, led) = self.add_references(alloc, &mut described, &mut findings)?;
+        let (own, led) = self.add_references(alloc, &mut described, &mut findings)?;
         if let Some(links) = &described.links {
             add_endless(alloc, self, links.as_slice(), &mut findings)?;
         }
@@ -200,37 +204,43 @@ impl Workspace {
         add_told(alloc, self, &described, &mut findings)?;
         let told_at = described.take_told(alloc);
         add_all_told_at(alloc, self, told_at, &mut findings)?;
+        let misnamed = described.take_misnamed(alloc);
+        add_all_misnamed(alloc, self, misnamed, &mut findings)?;
         add_repeated(alloc, self, &described, &mut findings)?;
         add_unused(alloc, self, &described, &unused, &mut findings)?;
         self.add_faults(alloc, &described, &mut findings)?;
         let unplaced = described.placed.unplaced(alloc, self)?;
         Ok(Report {
             findings,
-            references: references.saturating_add(described.references),
-            led,
+            references: own
+                .references
+                .saturating_add(led.references)
+                .saturating_add(described.references),
+            led: led.references,
             is_led: described.is_led,
             may_come_back,
             unused,
             descriptions: described.descriptions,
             places: described.places,
+            schema_places: own.places.saturating_add(led.places),
             unplaced,
         })
     }
 
-    // Adds what is wrong with the references of the documents that are looked at. Returns how many schemas have, by their own places and by what
-    // references lead to, and how many of these are of the latter.
+    // Adds what is wrong with the references of the documents that are looked at. Returns how much there is in schemas: where keywords lead, and where
+    // references alone do.
     fn add_references<'d>(
         &'d self,
         alloc: Global,
         described: &mut Described,
         findings: &mut Vec<Finding<'d>>,
-    ) -> Result<(usize, usize), AllocError> {
+    ) -> Result<(Amount, Amount), AllocError> {
         let mut more = Vec::new(alloc);
         add_described(alloc, self, described, &mut more)?;
-        let references = self.add_plain(alloc, &*described, findings)?;
-        let led = add_led(alloc, self, references, described, &mut more)?;
+        let own = self.add_plain(alloc, &*described, findings)?;
+        let led = add_led(alloc, self, own.references, described, &mut more)?;
         push_all(findings, more)?;
-        Ok((references.saturating_add(led), led))
+        Ok((own, led))
     }
 
     /// What is wrong with the references of the documents that are asked about, and whether references of schemas lead to places that no keyword
@@ -241,9 +251,9 @@ impl Workspace {
     ) -> Result<(Vec<Finding<'d>>, bool), AllocError> {
         let mut described = Described::of(alloc, self)?;
         let mut findings = Vec::new(alloc);
-        let (_references, led) = self.add_references(alloc, &mut described, &mut findings)?;
+        let (_own, led) = self.add_references(alloc, &mut described, &mut findings)?;
         drop(described);
-        Ok((findings, led > 0))
+        Ok((findings, led.references > 0))
     }
 
     // Adds which retrieved documents have no value, and which texts of them mean no URI.

@@ -112,6 +112,10 @@ fn schema_help(draft: Draft) -> &'static str {
 // What to do about a description whose references aren't checked, by the keyword at its root and its version.
 fn description_help(keyword: Option<&str>, version: Option<&str>) -> Option<&'static str> {
     match (keyword, version) {
+        (Some("openapi"), Some("2.0")) => Some("2.0 is written under 'swagger'"),
+        (Some("swagger"), Some(version)) if version.starts_with('3') => {
+            Some("3.0, 3.1 and 3.2 are written under 'openapi'")
+        }
         (Some("openapi" | "swagger"), Some(_)) => {
             Some("if another version is meant, write it: 2.0, 3.0, 3.1 and 3.2 are checked")
         }

@@ -4,8 +4,8 @@ use crate::finding::{Finding, Problem, push as push_finding};
 use crate::pointer::path_to;
 use crate::uses::{Use, Uses};
 use crate::workspace::Workspace;
+use ref_graphs::{Step, unused_definitions};
 use ref_parts::path::JsonPointerSegment;
-use ref_rules::{Step, reached};
 use serde_json::Value;
 use std::alloc::{AllocError, Global};
 use std::collections::BTreeMap;
@@ -72,25 +72,26 @@ fn is_same(one: &[String], other: &[String]) -> bool {
 /// are none where more may be meant than is noted. A search among names for each reference to another document, and else linear.
 pub(crate) fn unused_among(alloc: Global, all: &[&Uses]) -> Result<Rc<Unused>, AllocError> {
     let mut lists = Vec::new(alloc);
-    let starts = starts_of(alloc, all)?;
-    let count = starts.last().copied().unwrap_or(0);
-    if count > 0 && !all.iter().any(|uses| uses.is_open) {
-        let steps = steps_of(alloc, all, starts.as_slice())?;
-        let flags = reached(alloc, count.saturating_add(1), steps.as_slice())?;
-        lists = lists_of(alloc, all, starts.as_slice(), flags.as_slice())?;
+    if !all.iter().any(|uses| uses.is_open) {
+        let starts = starts_of(alloc, all)?;
+        let around = around_of(alloc, all, starts.as_slice())?;
+        if !around.is_empty() {
+            let steps = uses_of(alloc, all, starts.as_slice())?;
+            let numbers = unused_definitions(alloc, around.as_slice(), steps.as_slice())?;
+            lists = lists_of(alloc, all, starts.as_slice(), numbers.as_slice())?;
+        }
     }
     Ok(Rc::new(alloc, Unused { lists })?)
 }
 
-// How many definitions there are before those of each document, and at the end in all.
+// How many definitions there are before those of each document.
 fn starts_of(alloc: Global, all: &[&Uses]) -> Result<Vec<usize>, AllocError> {
-    let mut starts = Vec::with_capacity(alloc, all.len().saturating_add(1))?;
+    let mut starts = Vec::with_capacity(alloc, all.len())?;
     let mut count: usize = 0;
     for uses in all {
         starts.push(count)?;
         count = count.saturating_add(uses.definitions.len());
     }
-    starts.push(count)?;
     Ok(starts)
 }
 
@@ -103,16 +104,22 @@ fn number_of(starts: &[usize], document: usize, definition: usize) -> usize {
     start.saturating_add(definition)
 }
 
-// From which definitions references lead to which, and each definition to the one around it.
-fn steps_of(alloc: Global, all: &[&Uses], starts: &[usize]) -> Result<Vec<Step>, AllocError> {
+// The definition that each is in, by their numbers among those of all documents, or 0.
+fn around_of(alloc: Global, all: &[&Uses], starts: &[usize]) -> Result<Vec<usize>, AllocError> {
+    let mut around = Vec::new(alloc);
+    for (document, uses) in all.iter().enumerate() {
+        for definition in &uses.definitions {
+            around.push(number_of(starts, document, definition.around))?;
+        }
+    }
+    Ok(around)
+}
+
+// From which definitions references lead to which.
+fn uses_of(alloc: Global, all: &[&Uses], starts: &[usize]) -> Result<Vec<Step>, AllocError> {
     let mut steps = Vec::new(alloc);
     let names = names_of(alloc, all)?;
     for (document, uses) in all.iter().enumerate() {
-        for (number, definition) in uses.definitions.iter().enumerate() {
-            let inner = number_of(starts, document, number.saturating_add(1));
-            let outer = number_of(starts, document, definition.around);
-            push_step(&mut steps, inner, outer)?;
-        }
         for (from, to) in &uses.own {
             let from = number_of(starts, document, *from);
             push_step(&mut steps, from, number_of(starts, document, *to))?;
@@ -198,19 +205,19 @@ fn led_by(
     Ok(list)
 }
 
-// The pointers of those definitions without a flag, by the numbers of the documents.
+// The pointers of the definitions with these numbers, which rise, by the numbers of the documents.
 fn lists_of(
     alloc: Global,
     all: &[&Uses],
     starts: &[usize],
-    flags: &[bool],
+    numbers: &[usize],
 ) -> Result<Vec<Vec<String>>, AllocError> {
     let mut lists = Vec::with_capacity(alloc, all.len())?;
     for (document, uses) in all.iter().enumerate() {
         let mut list = Vec::new(alloc);
         for (number, definition) in uses.definitions.iter().enumerate() {
             let place = number_of(starts, document, number.saturating_add(1));
-            if !flags.get(place).copied().unwrap_or(true) {
+            if numbers.binary_search(&place).is_ok() {
                 let pointer = definition.pointer.clone()?;
                 list.push(pointer)?;
             }

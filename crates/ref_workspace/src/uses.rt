@@ -614,25 +614,35 @@ impl<'v> Walk<'v> {
         self.push_use(member, name, "")
     }
 
-    // Notes what the mapping of a discriminator refers to: each text is a reference, or the name of a schema.
+    // Notes what a discriminator refers to: each text of its mapping, and that of `defaultMapping`, is a reference, or the name of a schema (OpenAPI 3.2, Discriminator
+    // Object).
     fn note_mapping(&mut self, member: Spot<'_>) -> Result<(), AllocError> {
+        if let Some(text) = member.value.get("defaultMapping").and_then(Value::as_str) {
+            self.note_mapped(member, text)?;
+        }
         let Some(mapping) = member.value.get("mapping").and_then(Value::as_object) else {
             return Ok(());
         };
         for (_, text) in mapping {
             if let Some(text) = text.as_str() {
-                self.note(member, text)?;
-                self.note_component(member, "/components/schemas/", text)?;
+                self.note_mapped(member, text)?;
             }
         }
         Ok(())
     }
 
-    // Notes which security schemes are required, by their names.
+    // Notes what a text refers to that may be the name of a schema.
+    fn note_mapped(&mut self, member: Spot<'_>, text: &str) -> Result<(), AllocError> {
+        self.note(member, text)?;
+        self.note_component(member, "/components/schemas/", text)
+    }
+
+    // Notes which security schemes are required: each by its name, or by its URI (OpenAPI 3.2, Security Requirement Object).
     fn note_security(&mut self, member: Spot<'_>, items: &[Value]) -> Result<(), AllocError> {
         for item in items {
             if let Some(schemes) = item.as_object() {
                 for (name, _) in schemes {
+                    self.note(member, name.as_str())?;
                     self.note_component(member, "/components/securitySchemes/", name.as_str())?;
                 }
             }

@@ -1,0 +1,4 @@
+pub mod Searching
+pub mod Circling
+pub mod Returning
+pub mod Used
