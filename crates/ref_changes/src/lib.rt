@@ -17,4 +17,4 @@ mod sites;
 
 pub use comparing::compare;
 pub use difference::{Difference, Leading, What};
-pub use moves::{Address, Move};
+pub use moves::{Address, Image, Move, moved_to, table_of};

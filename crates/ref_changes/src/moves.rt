@@ -30,8 +30,10 @@ pub struct Move<'f, 't> {
 
 /// Where a value is after.
 #[derive(Drop)]
-pub(crate) struct Image {
+pub struct Image {
+    /// The number of its document.
     pub document: usize,
+    /// Its pointer there.
     pub pointer: String,
 }
 
@@ -42,8 +44,8 @@ pub(crate) fn number_text(alloc: Global, number: usize) -> Result<String, AllocE
     format!(in alloc; "{number}")
 }
 
-/// Where moves lead, by the pointer and the number of the document that each leads from.
-pub(crate) fn table_of<'t>(
+/// Where moves lead, by the pointer and the number of the document that each leads from. Fails only if out of memory. Sorts them.
+pub fn table_of<'t>(
     alloc: Global,
     moves: &[Move<'_, 't>],
 ) -> Result<SortedTable<Address<'t>>, AllocError>
@@ -144,8 +146,8 @@ fn root(
     }
 }
 
-/// Where the value at a path of a document is after. A look-up for each part.
-pub(crate) fn moved_to(
+/// Where the value at a path of a document is after, by a table of moves. Fails only if out of memory. A look-up for each part.
+pub fn moved_to(
     alloc: Global,
     table: &SortedTable<Address<'_>>,
     document: usize,

@@ -21,6 +21,13 @@ pub struct Survey<'r> {
 }
 
 impl<'r> Survey<'r> {
+    /// The documents, in which references of its places are looked up.
+    pub fn documents(&self) -> &Documents<'r>
+        ensures value { result.now ≡ self.now.documents }
+    {
+        &self.documents
+    }
+
     /// The objects that descriptions have by themselves: their roots, and what is below these by their tables.
     pub fn own(&self) -> &[Place<'r>]
         ensures value { map place_of result.now ≡ (known_of self.now.documents).own }

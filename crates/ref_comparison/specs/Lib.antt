@@ -1,0 +1,2 @@
+pub mod Further
+pub mod Views
