@@ -1,4 +1,4 @@
-//! Lints, follows, bundles, lists and draws the references of folders of JSON Schema files. What may be
+//! Lints, follows, bundles, lists, draws and keeps the references of folders of JSON Schema files. What may be
 //! on its command line is in `ref_command_line`. Each subcommand is in a file of its name: `serve` and `lsp` here, and the others in `ref_commands`.
 #![tactic(auto)]
 
@@ -7,7 +7,7 @@ mod serve;
 
 use clap::{ArgMatches, Error};
 use ref_command_line::{Configured, Console, Stop, command, console, find_configuration, say};
-use ref_commands::{bundle, graph, lint, places, resolve};
+use ref_commands::{bundle, graph, lint, moving, places, rename, resolve};
 use ref_messages::PlainBytes;
 use simdutf8::compat::from_utf8;
 use std::alloc::AllocError;
@@ -188,6 +188,8 @@ fn answer<'a>(
         "resolve" => resolve::resolve(rt, console, given, configured),
         "bundle" => bundle::bundle(rt, console, given, configured),
         "places" => places::places(rt, console, given, configured),
+        "rename" => rename::rename(rt, console, given, configured),
+        "move" => moving::move_path(rt, console, given, configured),
         _ => graph::graph(rt, console, given, configured),
     }
 }

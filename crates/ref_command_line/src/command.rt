@@ -10,16 +10,20 @@ enum Subcommand {
     Bundle,
     Places,
     Graph,
+    Rename,
+    Move,
     Serve,
     Lsp,
 }
 
-const SUBCOMMANDS: [Subcommand; 7] = [
+const SUBCOMMANDS: [Subcommand; 9] = [
     Subcommand::Lint,
     Subcommand::Resolve,
     Subcommand::Bundle,
     Subcommand::Places,
     Subcommand::Graph,
+    Subcommand::Rename,
+    Subcommand::Move,
     Subcommand::Serve,
     Subcommand::Lsp,
 ];
@@ -31,6 +35,13 @@ enum Word {
     Paths,
     ReferringFile,
     RootFile,
+    DefiningFile,
+    Pointer,
+    Name,
+    Anchor,
+    Id,
+    Source,
+    Target,
     Reference,
     From,
     With,
@@ -51,6 +62,7 @@ enum Word {
     WriteBaseline,
     Fix,
     DryRun,
+    Preview,
     Statistics,
     Format,
     Color,
@@ -116,7 +128,7 @@ fn without_subcommands<'c>(alloc: Global) -> Result<Command<'c>, AllocError> {
         .version("0.1.0")
         .propagate_version(true)
         .about(
-            "Lints, follows, bundles, lists and draws the references of JSON Schema files, in JSON or YAML",
+            "Lints, follows, bundles, lists, draws and keeps the references of JSON Schema files, in JSON or YAML",
         )
         .arg_required_else_help(true)
         .bin_name("patchsard")?
@@ -154,6 +166,8 @@ fn name_of<'c>(subcommand: Subcommand) -> &'c str {
         Subcommand::Bundle => "bundle",
         Subcommand::Places => "places",
         Subcommand::Graph => "graph",
+        Subcommand::Rename => "rename",
+        Subcommand::Move => "move",
         Subcommand::Serve => "serve",
         Subcommand::Lsp => "lsp",
     }
@@ -169,6 +183,12 @@ fn about<'c>(subcommand: Subcommand) -> &'c str {
             "Lists each subschema of schema files: file, line and column, pointer, draft, base URI, identifier and anchors"
         }
         Subcommand::Graph => "Draws which file refers to which, with what is broken in red",
+        Subcommand::Rename => {
+            "Renames a definition, a component, an anchor or an identifier, with every reference that leads there"
+        }
+        Subcommand::Move => {
+            "Moves a file or a folder, with every reference that leads there or from there"
+        }
         Subcommand::Serve => {
             "Answers calls of other programs: one JSON object a line in, one a line out"
         }
@@ -192,6 +212,12 @@ fn status_of<'c>(subcommand: Subcommand) -> &'c str {
         }
         Subcommand::Graph => {
             "Exit status: 0 where all files are drawn, 1 where one is neither JSON nor YAML, 2 where a path can't be read or the command line is wrong."
+        }
+        Subcommand::Rename => {
+            "All references are followed before and after: where one would lead elsewhere, nothing is changed. Where neither --with nor a configuration names files, those below this folder are read. Exit status: 0 where it is renamed, or with --dry-run would be, 1 where it is not, 2 where a path can't be read or written or the command line is wrong, 3 where the text that was made isn't that of the change."
+        }
+        Subcommand::Move => {
+            "All references are followed before and after: where one would lead elsewhere, nothing is changed. Where neither --with nor a configuration names files, those below this folder are read. Exit status: 0 where it is moved, or with --dry-run would be, 1 where it is not, 2 where a path can't be read or written or the command line is wrong, 3 where the text that was made isn't that of the change."
         }
         Subcommand::Bundle => {
             "Exit status: 0 where the bundle is written, 1 where there is none, 2 where a path can't be read or written or the command line is wrong, 3 where the text that was made isn't that of the bundle."
@@ -292,6 +318,39 @@ fn words_of(subcommand: Subcommand) -> &'static [Word] {
             Word::Draft,
             Word::Map,
         ],
+        Subcommand::Rename => &[
+            Word::DefiningFile,
+            Word::Pointer,
+            Word::Name,
+            Word::Anchor,
+            Word::Id,
+            Word::Preview,
+            Word::With,
+            Word::Exclude,
+            Word::NoIgnore,
+            Word::Config,
+            Word::NoConfig,
+            Word::Yaml,
+            Word::NoProgress,
+            Word::Base,
+            Word::Draft,
+            Word::Map,
+        ],
+        Subcommand::Move => &[
+            Word::Source,
+            Word::Target,
+            Word::Preview,
+            Word::With,
+            Word::Exclude,
+            Word::NoIgnore,
+            Word::Config,
+            Word::NoConfig,
+            Word::Yaml,
+            Word::NoProgress,
+            Word::Base,
+            Word::Draft,
+            Word::Map,
+        ],
         Subcommand::Serve => &[],
         Subcommand::Lsp => &[
             Word::Exclude,
@@ -381,6 +440,48 @@ fn row_of<'c>(word: Word) -> Row<'c> {
             "FILE",
             Kind::Place,
             "The schema file that becomes the root of the bundle",
+        ),
+        Word::DefiningFile => named(
+            "file",
+            "FILE",
+            Kind::Place,
+            "The file that has what is renamed",
+        ),
+        Word::Pointer => named(
+            "pointer",
+            "POINTER",
+            Kind::Place,
+            "The place in the file of what is renamed, as a JSON pointer",
+        ),
+        Word::Name => named(
+            "name",
+            "NAME",
+            Kind::Place,
+            "What it is called after: a key, with --anchor an anchor, with --id a URI",
+        ),
+        Word::Anchor => named(
+            "anchor",
+            "",
+            Kind::Flag,
+            "Rename the anchor of the schema there",
+        ),
+        Word::Id => named(
+            "id",
+            "",
+            Kind::Flag,
+            "Give the schema there another identifier",
+        ),
+        Word::Source => named(
+            "source",
+            "FROM",
+            Kind::Place,
+            "The file or the folder that is moved",
+        ),
+        Word::Target => named(
+            "target",
+            "TO",
+            Kind::Place,
+            "Where it is after: nothing is there yet, and its folder is",
         ),
         Word::Reference => named(
             "reference",
@@ -496,6 +597,12 @@ fn row_of<'c>(word: Word) -> Row<'c> {
             "",
             Kind::Flag,
             "With --fix, print the lines that would change, as a unified diff, and write nothing; the status is 1 where something would",
+        ),
+        Word::Preview => named(
+            "dry-run",
+            "",
+            Kind::Flag,
+            "Print the lines that would change, as a unified diff, and write nothing",
         ),
         Word::Statistics => named(
             "statistics",

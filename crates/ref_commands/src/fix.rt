@@ -155,8 +155,10 @@ fn say_fixed(
     number: usize,
 ) -> Result<(), AllocError> {
     let name = opened.workspace.name(number);
+    let mut end: usize = 0;
     for fix in fixes {
-        if fix.source == number {
+        if fix.source == number && end <= fix.part.start {
+            end = fix.part.end;
             let place = format!(in rt.alloc(); "{name}:{}:{}", fix.line, fix.column)?;
             let what = format!(in rt.alloc();
                 "{} '{}' is now '{}'",
@@ -340,11 +342,13 @@ fn make(
     Ok(())
 }
 
-// What fixes replace in a document.
+// What fixes replace in a document, each part once: what an alias of YAML means is at several places, and its text at one.
 fn parts_of(alloc: Global, fixes: &[Fix], number: usize) -> Result<Vec<Replacement>, AllocError> {
     let mut parts = Vec::new(alloc);
+    let mut end: usize = 0;
     for fix in fixes {
-        if fix.source == number {
+        if fix.source == number && end <= fix.part.start {
+            end = fix.part.end;
             parts.push(Replacement {
                 start: fix.part.start,
                 end: fix.part.end,

@@ -23,7 +23,9 @@ use std::time::Instant;
 #[derive(Clone, Copy, Drop)]
 struct Count {
     descriptions: usize,
+    // How many places the descriptions have, and how many the other documents.
     places: usize,
+    schema_places: usize,
     references: usize,
     // How many texts are under a `$ref` that is in no place.
     unplaced: usize,
@@ -192,6 +194,7 @@ fn list_all(
     let count = Count {
         descriptions: report.descriptions,
         places: report.places,
+        schema_places: report.schema_places,
         references: report.references,
         unplaced: report.unplaced.len(),
         silenced: 0,
@@ -494,6 +497,13 @@ fn summary(
         push_count(&mut line, count.descriptions, "description")?;
         line.push_str(" with ")?;
         push_count(&mut line, count.places, "place")?;
+        line.push_str(", ")?;
+    }
+    if count.descriptions == 0 {
+        push_count(&mut line, count.schema_places, "place")?;
+        line.push_str(", ")?;
+    } else if count.schema_places > 0 {
+        push_count(&mut line, count.schema_places, "other place")?;
         line.push_str(", ")?;
     }
     push_count(&mut line, count.references, "reference")?;

@@ -72,6 +72,34 @@ pub fn open_file<'r, 'a>(
     open_listed(rt, &reading, listed, watch)
 }
 
+/// Opens what is to be changed at a path, and all that may refer to it: the files that a configuration and `--with` name, or else those below the working folder. All of them are
+/// asked about.
+pub fn open_around<'r, 'a>(
+    rt: &'r HostRuntime,
+    given: &ArgMatches<'a>,
+    configured: &'a Configured,
+    path: &'a str,
+) -> Result<Opened<'r>, Stop> {
+    let watch = Watch::new(rt, given);
+    let mut reading = reading_of(rt, given, configured)?;
+    if reading.selection.paths.is_empty() && reading.selection.with.is_empty() {
+        push_path(&mut reading.selection.paths, ".")?;
+    }
+    push_path(&mut reading.selection.paths, path)?;
+    let mut listed = list_files(rt, &reading.selection)?;
+    say_failures(rt, &listed.failures);
+    say_unused(rt, listed.unused.as_slice());
+    for file in &mut listed.files {
+        file.is_own = true;
+    }
+    open_listed(rt, &reading, listed, watch)
+}
+
+fn push_path<'a>(paths: &mut Vec<&'a str>, path: &'a str) -> Result<(), AllocError> {
+    paths.push(path)?;
+    Ok(())
+}
+
 // Opens the files that were listed, and retrieves what they want from maps.
 fn open_listed<'r>(
     rt: &'r HostRuntime,

@@ -40,8 +40,8 @@ pub fn resolve<'a>(
     status
 }
 
-// Whether a text is a JSON pointer (RFC 6901, 3).
-fn is_pointer(text: &str) -> bool {
+/// Whether a text is a JSON pointer (RFC 6901, 3).
+pub(crate) fn is_pointer(text: &str) -> bool {
     if !text.is_empty() && !text.starts_with('/') {
         return false;
     }

@@ -6,8 +6,8 @@ use ref_outline::spans::offset_of;
 use ref_workspace::{UnusedSilence, near_rule};
 use std::alloc::{AllocError, Global};
 
-/// The message on a comment at a line and a column of the document with a number: that it silences nothing, or which rule it names that there isn't, and which may
-/// be meant.
+/// The message on a comment at a line and a column of the document with a number: that it silences nothing, that it names no rule, or which rule it names that there
+/// isn't, and which may be meant.
 pub(crate) fn silence_message<'m>(
     alloc: Global,
     opened: &'m Opened<'_>,
@@ -52,6 +52,11 @@ fn complete(
         message.help = Some(String::from_str(alloc, "remove it")?);
         return Ok(());
     };
+    if name.is_empty() {
+        message.text = String::from_str(alloc, "This comment is to silence, and names no rule")?;
+        message.help = Some(String::from_str(alloc, "name the rule: patchsard: ignore RULE: why")?);
+        return Ok(());
+    }
     message.text = format!(in alloc;
         "There is no rule '{name}', which this comment is to silence"
     )?;
