@@ -17,6 +17,7 @@ mod life;
 mod links;
 mod mapped;
 mod references;
+mod rename;
 mod server;
 mod session;
 mod settle;

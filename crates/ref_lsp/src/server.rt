@@ -13,6 +13,7 @@ use crate::hover::hover;
 use crate::life::{initialize, renewal, watch};
 use crate::links::links;
 use crate::references::references;
+use crate::rename::{prepare_rename, rename};
 use crate::session::Session;
 use crate::shown::{Kept, Rules, Shown, Told};
 use crate::symbols::symbols;
@@ -184,7 +185,7 @@ fn serves(served: Option<usize>, asked: Option<usize>, has_value: bool) -> bool
 fn asked_of(desk: &Desk<'_>, call: &Call) -> Result<Option<usize>, AllocError> {
     let uri = call.message.pointer("/params/textDocument/uri");
     match (call.method, uri.and_then(Value::as_str)) {
-        (Method::References, _) | (_, None) => Ok(None),
+        (Method::References | Method::PrepareRename | Method::Rename, _) | (_, None) => Ok(None),
         (_, Some(uri)) => Ok(Some(desk.number_of(uri)?.unwrap_or(usize::MAX))),
     }
 }
@@ -360,6 +361,8 @@ fn needs_view(method: Method) -> bool
             | Method::Hover
             | Method::DocumentLink
             | Method::Completion
+            | Method::PrepareRename
+            | Method::Rename
     )
 }
 
@@ -451,6 +454,8 @@ fn by_view(desk: &Desk<'_>, view: &View<'_, '_>, call: &Call) -> Result<String, 
         Method::References => references(desk, view, params),
         Method::Hover => hover(desk, view, params),
         Method::DocumentLink => links(desk, view, params),
+        Method::PrepareRename => prepare_rename(desk, view, params),
+        Method::Rename => rename(desk, view, params),
         _ => completion(desk, view, params),
     }
 }

@@ -1,4 +1,5 @@
-//! Documents that bear a URI which others bear too. An anchor is looked up by the URI of the schema around it, in whichever of them it is.
+//! Documents that bear a URI which others bear too, and those that descriptions lead to. An anchor is looked up by the URI of the schema around it, in
+//! whichever document it is.
 use ref_workspace::Summary;
 use std::alloc::{AllocError, Global};
 use std::collections::BTreeSet;
@@ -17,8 +18,24 @@ pub fn add_sharers(
             add_all(alloc, &mut borne, &summary.bears)?;
         }
     }
-    let _ = spread(alloc, summaries, &mut borne, flags)?;
+    let _ = spread(alloc, summaries, &mut borne, flags, false)?;
     Ok(())
+}
+
+/// The descriptions, and the documents that these and what they lead to refer to, by flags; with those that bear a URI that one of them bears too. A pass
+/// over all summaries for each step from the descriptions on.
+pub fn described_among(alloc: Global, summaries: &[Rc<Summary>]) -> Result<Vec<bool>, AllocError> {
+    let mut reached = BTreeSet::new(alloc);
+    let mut flags = Vec::with_capacity(alloc, summaries.len())?;
+    for summary in summaries {
+        if summary.is_description {
+            add_all(alloc, &mut reached, &summary.bears)?;
+            add_all(alloc, &mut reached, &summary.refers)?;
+        }
+        flags.push(summary.is_description)?;
+    }
+    let _ = spread(alloc, summaries, &mut reached, &mut flags, true)?;
+    Ok(flags)
 }
 
 /// Adds the documents that changes may alter the findings of since others bear a URI that a document which changed bears or bore: those that bear or refer to
@@ -39,7 +56,7 @@ pub fn add_altered(
         }
         flags.push(is_changed)?;
     }
-    if spread(alloc, after, &mut borne, &mut flags)? {
+    if spread(alloc, after, &mut borne, &mut flags, false)? {
         for (summary, flag) in after.iter().zip(altered.iter_mut()) {
             *flag = *flag || has_any(&borne, &summary.refers) || has_any(&borne, &summary.bears);
         }
@@ -47,19 +64,21 @@ pub fn add_altered(
     Ok(())
 }
 
-// Adds the documents that bear one of some URIs, and what they bear to these, until there are no more, and says whether there were any.
+// Adds the documents that bear one of some URIs, and to these what they bear, and what they refer to where that is followed, until there are no more. Says
+// whether there were any.
 fn spread(
     alloc: Global,
     summaries: &[Rc<Summary>],
-    borne: &mut BTreeSet<String>,
+    reached: &mut BTreeSet<String>,
     flags: &mut Vec<bool>,
+    is_followed: bool,
 ) -> Result<bool, AllocError> {
-    if borne.is_empty() {
+    if reached.is_empty() {
         return Ok(false);
     }
     let mut is_any = false;
     for _ in 0..summaries.len() {
-        if !pass(alloc, summaries, borne, flags)? {
+        if !pass(alloc, summaries, reached, flags, is_followed)? {
             break;
         }
         is_any = true;
@@ -71,15 +90,19 @@ fn spread(
 fn pass(
     alloc: Global,
     summaries: &[Rc<Summary>],
-    borne: &mut BTreeSet<String>,
+    reached: &mut BTreeSet<String>,
     flags: &mut Vec<bool>,
+    is_followed: bool,
 ) -> Result<bool, AllocError> {
     let mut is_any_new = false;
     for (summary, flag) in summaries.iter().zip(flags.iter_mut()) {
-        if !*flag && has_any(&*borne, &summary.bears) {
+        if !*flag && has_any(&*reached, &summary.bears) {
             *flag = true;
             is_any_new = true;
-            add_all(alloc, borne, &summary.bears)?;
+            add_all(alloc, reached, &summary.bears)?;
+            if is_followed {
+                add_all(alloc, reached, &summary.refers)?;
+            }
         }
     }
     Ok(is_any_new)

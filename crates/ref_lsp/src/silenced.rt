@@ -10,7 +10,7 @@ use ref_workspace::{Silences, UnusedSilence, near_rule};
 use std::alloc::{AllocError, Global};
 
 // How a comment begins that silences rules.
-const BEGIN: &str = "patchsard: ignore ";
+const BEGIN: &str = "patchsard: ignore";
 
 // The rule of a comment that silences nothing.
 const CODE: &str = "unused-silence";
@@ -135,6 +135,12 @@ fn said(alloc: Global, silence: &UnusedSilence<'_>) -> Result<String, AllocError
     let Some(name) = silence.unknown else {
         return String::from_str(alloc, "This comment silences nothing\nhelp: remove it");
     };
+    if name.is_empty() {
+        return String::from_str(
+            alloc,
+            "This comment is to silence, and names no rule\nhelp: name the rule: patchsard: ignore RULE: why",
+        );
+    }
     let mut text = format!(in alloc;
         "There is no rule '{name}', which this comment is to silence"
     )?;

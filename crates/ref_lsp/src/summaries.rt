@@ -2,7 +2,8 @@
 use crate::asked::texts_at;
 use crate::completion::push_below;
 use crate::desk::Desk;
-use crate::sharers::add_sharers;
+use crate::sharers::{add_sharers, described_among};
+use crate::workspace_symbols::is_data;
 use ref_workspace::near::{around_one, connected};
 use ref_workspace::{Summary, Workspace};
 use serde_json::Value;
@@ -157,23 +158,24 @@ impl Desk<'_> {
         Ok(flags)
     }
 
-    // The same documents, and where one of them may have a base that depends on what leads into it, or may be a part of a description, those that a way of
-    // references connects with the one with a number: all, where that isn't known in a few passes.
+    // The same documents, and others that may decide how they are read: where one of them has an identifier in what is in it, those that a way of
+    // references connects with the one with a number, or all, where these aren't known in a few passes; else where one is a description, or one leads to
+    // it, the descriptions and what they lead to.
     fn with_leading(&self, number: usize, flags: Vec<bool>) -> Result<Vec<bool>, AllocError> {
+        let alloc = self.alloc();
         let list = self.summaries.list.as_slice();
-        let has_bases = self.has_inner_bases(flags.as_slice())?;
-        if !has_bases && !list.iter().any(|summary| summary.is_description) {
+        if self.has_inner_bases(flags.as_slice())? {
+            return match self.connected_with(number)? {
+                Some(beyond) => Ok(both(flags, beyond.as_slice())),
+                None => Ok(Vec::new(alloc)),
+            };
+        }
+        if !list.iter().any(|summary| summary.is_description) {
             return Ok(flags);
         }
-        let Some(beyond) = self.connected_with(number)? else {
-            return Ok(Vec::new(self.alloc()));
-        };
-        if !has_bases && !has_description(list, beyond.as_slice()) {
-            return Ok(flags);
-        }
-        let mut flags = flags;
-        for (flag, is_in) in flags.iter_mut().zip(beyond.iter()) {
-            *flag = *flag || *is_in;
+        let described = described_among(alloc, list)?;
+        if is_any_in(flags.as_slice(), described.as_slice()) {
+            return Ok(both(flags, described.as_slice()));
         }
         Ok(flags)
     }
@@ -215,20 +217,28 @@ impl Desk<'_> {
     }
 }
 
-// Whether a document with a flag is a description.
-fn has_description(summaries: &[Rc<Summary>], flags: &[bool]) -> bool {
-    for (summary, is_in) in summaries.iter().zip(flags.iter()) {
-        if *is_in && summary.is_description {
-            return true;
-        }
+// The documents that have a flag in one of two lists.
+fn both(flags: Vec<bool>, others: &[bool]) -> Vec<bool> {
+    let mut flags = flags;
+    for (flag, is_in) in flags.iter_mut().zip(others.iter()) {
+        *flag = *flag || *is_in;
     }
-    false
+    flags
 }
 
-// Whether an object in a value, other than that itself, has a text that may be an identifier. A step for each value.
+// Whether a document has a flag in both of two lists.
+fn is_any_in(flags: &[bool], others: &[bool]) -> bool {
+    flags
+        .iter()
+        .zip(others.iter())
+        .any(|(flag, is_in)| *flag && *is_in)
+}
+
+// Whether an object in a value, other than that itself, has a text that may be an identifier; but for what is an example, a default, or a value to compare
+// with. A step for each value.
 fn has_inner_identifier(alloc: Global, root: &Value) -> Result<bool, AllocError> {
     let mut waiting = Vec::new(alloc);
-    push_below(&mut waiting, root)?;
+    push_inner(&mut waiting, root)?;
     for _ in 0..u64::MAX {
         let Some(value) = waiting.pop() else {
             break;
@@ -236,9 +246,22 @@ fn has_inner_identifier(alloc: Global, root: &Value) -> Result<bool, AllocError>
         if IDENTIFIERS.iter().any(|key| is_identified(value.get(*key))) {
             return Ok(true);
         }
-        push_below(&mut waiting, value)?;
+        push_inner(&mut waiting, value)?;
     }
     Ok(false)
+}
+
+// Adds the values that are in one, but for those.
+fn push_inner<'v>(waiting: &mut Vec<&'v Value>, value: &'v Value) -> Result<(), AllocError> {
+    let Value::Object(members) = value else {
+        return push_below(waiting, value);
+    };
+    for (key, member) in members {
+        if !is_data(key.as_str()) {
+            waiting.push(member)?;
+        }
+    }
+    Ok(())
 }
 
 // The keys under which an identifier may be.

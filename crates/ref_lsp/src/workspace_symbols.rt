@@ -173,8 +173,8 @@ fn is_definitions(key: &str) -> bool {
     key == "$defs" || key == "definitions"
 }
 
-// Whether what is under a key is a value and no schema.
-fn is_data(key: &str) -> bool {
+/// Whether what is under a key is a value and no schema.
+pub fn is_data(key: &str) -> bool {
     matches!(key, "enum" | "const" | "default" | "example" | "examples")
 }
 

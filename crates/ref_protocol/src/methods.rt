@@ -33,6 +33,10 @@ pub enum Method {
     DocumentLink,
     /// `textDocument/completion`: what may be written in a reference.
     Completion,
+    /// `textDocument/prepareRename`: what may be renamed at a place.
+    PrepareRename,
+    /// `textDocument/rename`: what is changed where that gets another name.
+    Rename,
     /// `textDocument/codeAction`: what mends something.
     CodeAction,
     /// `textDocument/diagnostic`: what is wrong with a document.
@@ -65,6 +69,8 @@ pub fn method_named(name: &str) -> Option<Method>
         "textDocument/hover" => Some(Method::Hover),
         "textDocument/documentLink" => Some(Method::DocumentLink),
         "textDocument/completion" => Some(Method::Completion),
+        "textDocument/prepareRename" => Some(Method::PrepareRename),
+        "textDocument/rename" => Some(Method::Rename),
         "textDocument/codeAction" => Some(Method::CodeAction),
         "textDocument/diagnostic" => Some(Method::Diagnostic),
         "textDocument/documentSymbol" => Some(Method::DocumentSymbol),

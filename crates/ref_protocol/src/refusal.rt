@@ -21,6 +21,8 @@ pub enum Refusal {
     AfterShutdown,
     /// Memory ran out.
     Memory,
+    /// What is asked for can't be done, for this reason, which has neither quotes nor backslashes.
+    Failed(&'static str),
 }
 
 impl Refusal {
@@ -35,6 +37,7 @@ impl Refusal {
             Refusal::NoParameters => "-32602",
             Refusal::NotInitialized => "-32002",
             Refusal::Memory => "-32603",
+            Refusal::Failed(_) => "-32803",
         }
     }
 
@@ -50,6 +53,7 @@ impl Refusal {
             Refusal::NotInitialized => "The server is not initialized",
             Refusal::AfterShutdown => "The server is shut down",
             Refusal::Memory => "Out of memory",
+            Refusal::Failed(why) => why,
         }
     }
 }
