@@ -15,7 +15,7 @@ use Rattle.ref_definitions.specs.Lookup.{Resolver, Found as WorldFound, in_subre
 use Rattle.ref_definitions.specs.Follow as world
 use Rattle.ref_error.specs.declared.error.Error.{Error}
 use Rattle.ref_error.specs.declared.error.Error.TheVariants as error
-use Rattle.ref_error.specs.Errors.{IsFaultOf, SaysFault, is_memory}
+use Rattle.ref_error.specs.Errors.{IsFaultOf, SaysFault, is_memory, Gives as GivesMeaning}
 use Rattle.ref_index.specs.Spots.{Spot}
 use Rattle.ref_resolver.specs.Locations.{IsValueAt, location_view}
 use Rattle.ref_resolver.proofs.Faults.{fault_ends}
@@ -27,11 +27,12 @@ use Rattle.ref_calls.specs.Objects.{object_of}
 use Rattle.ref_calls.specs.Calls.{each_item}
 use Rattle.ref_calls.proofs.Further.{in_front, in_front_push, first_read}
 use Rattle.ref_serve.specs.declared.place.Found.{Found}
+use Rattle.ref_serve.specs.declared.following.Followed.{Followed}
 use Rattle.ref_serve.specs.Results.{Asked, found_members, resolver_members}
 use Rattle.ref_calls.specs.Outcome.{Gives}
 use Rattle.ref_serve.specs.Following.{step_in, step_members, step_place, place_after, IsFollowed, IsFollowedTo}
 use Rattle.ref_serve.specs.inner.Seen.{IsFoundBy}
-use Rattle.ref_serve.specs.inner.Steps.{IsLookedUpTo, IsStepError}
+use Rattle.ref_serve.specs.inner.Steps.{followed_view, IsLookedUpTo, IsStepError}
 
 -- ---- what is read
 
@@ -54,6 +55,12 @@ looked_up_to answer f (found, is, same) = ap (λ a. a >>= λ x. Ok (world.after_
 pub look_up_stops : {X : Type 0} (result : Result X Error) (answer : Result WorldFound Fault) → IfErr result (IsFaultOf answer) → IfErr result (IsFaultOf (answer >>= λ found. Ok (world.after_lookup found)))
 look_up_stops (Ok x) answer is = tt
 look_up_stops (Err e) answer is = fault_ends answer (λ found. Ok (world.after_lookup found)) e is
+
+-- both
+pub gives_looked_up : (result : Result Followed Error) (answer : Result WorldFound Fault) → IfOk result (λ f. IsLookedUpTo answer (followed_view f)) → IfErr result (IsFaultOf answer)
+    → GivesMeaning followed_view (answer >>= λ found. Ok (world.after_lookup found)) result
+gives_looked_up (Ok f) answer ok fault = looked_up_to answer (followed_view f) ok
+gives_looked_up (Err e) answer ok fault = fault_ends answer (λ found. Ok (world.after_lookup found)) e fault
 
 pub entered : (w : World) (f : world.Followed) (draft : Draft) (value : Data) (r : Resolver) → as_invalid_uri (in_subresource f.resolver draft value) ≡ Ok r → world.after_step w f (world.Enter draft value) ≡ Ok (record { last = f.last; resolver = r })
 entered w f draft value r at = rw at refl
