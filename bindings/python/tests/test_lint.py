@@ -53,7 +53,7 @@ class Found(Files):
         self.assertEqual([members(dataclasses.asdict(it)) for it in found], expected)
         self.assertGreater(len(found), 15)
         self.assertEqual(found.status, done.returncode)
-        self.assertRegex(found.summary, r"^\d+ files, \d+ references, \d+ errors, ")
+        self.assertRegex(found.summary, r"^\d+ files, \d+ places, \d+ references, \d+ errors, ")
         first = next(it for it in found if it.code == "duplicate-anchor")
         self.assertEqual(first.first, Place("folder/anchors.json", "/$defs/first", 3, 26))
         self.assertEqual(str(first), "folder/anchors.json:4:27: error[duplicate-anchor]: Two schemas of 'https://example.com/schemas/anchors.json' have the anchor 'node'")
@@ -63,7 +63,7 @@ class Found(Files):
         self.write("a.json", {"$ref": "#/$defs/a", "$defs": {"a": {}}})
         found = lint(self.room)
         self.assertEqual((list(found), found.status), ([], 0))
-        self.assertIn("1 file, 1 reference, 0 errors", found.summary)
+        self.assertIn("1 file, 2 places, 1 reference, 0 errors", found.summary)
 
     def test_no_file(self):
         found = lint(self.room)
