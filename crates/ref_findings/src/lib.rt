@@ -27,4 +27,5 @@ mod walk;
 pub use finding::{Bearer, Finding, Level, Problem, Report};
 pub use gathering::{Held, as_sources, gather};
 pub use list::{findings, mended, report};
+pub use mending::with_null_at;
 pub use source::Source;

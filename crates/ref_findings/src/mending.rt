@@ -298,3 +298,17 @@ pub(crate) fn mended_tree(
     let paths = lent(alloc, own.as_slice())?;
     with_nulls(alloc, paths.as_slice(), value)
 }
+
+/// A value with `null` in place of the member under a key, where it is an object that has one: a copy.
+///
+/// Fails only if out of memory.
+pub fn with_null_at(alloc: Global, key: &str, value: &Value) -> Result<Value, AllocError>
+    ensures value { IfOk result
+        (λ v. view v ≡ with_nulls ((Key key.now ∷ []) ∷ []) (view value.now)) }
+{
+    let mut path = Vec::new(alloc);
+    path.push(key_step(alloc, key)?)?;
+    let mut paths = Vec::new(alloc);
+    paths.push(path.as_slice())?;
+    with_nulls(alloc, paths.as_slice(), value)
+}

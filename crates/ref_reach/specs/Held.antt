@@ -1,11 +1,13 @@
 -- What references are looked up in: the documents, and after them those parts of descriptions that have URIs of their own.
-use Rattle.std.specs.Prelude.{ℕ, List, ◌++◌, map, filter, Option, Some, None, unwrap_or}
+use Rattle.std.specs.Prelude.{ℕ, List, [], ◌∷◌, ◌++◌, map, filter, Option, Some, None, unwrap_or}
 use Rattle.serde_json.specs.Data.{Data}
-use Rattle.ref_paths.specs.Path.{Part}
+use Rattle.ref_paths.specs.Path.{Part, Key}
 use Rattle.ref_draft.specs.declared.draft.Draft.{Draft}
 use Rattle.ref_draft.specs.declared.draft.Draft.TheVariants.{Draft7}
+use Rattle.ref_draft.specs.Keywords.{id_keyword}
 use Rattle.ref_draft.specs.Schema.{detect}
 use Rattle.ref_definitions.specs.World.{Document, Layer}
+use Rattle.ref_findings.specs.Mending.{with_nulls}
 use Rattle.ref_findings.specs.Sources.{tree_in_place}
 use Rattle.ref_descriptions.specs.declared.version.Version.{Version}
 use Rattle.ref_descriptions.specs.declared.version.Version.TheVariants.{V2_0, V3_0, V3_1, V3_2}
@@ -34,8 +36,13 @@ held draft uri tree =
 abbrev pub held_source : Draft → Source → Document
 held_source draft s = held (draft_for draft (version_of s.tree)) s.uri s.tree
 
+-- The tree of a part that has a URI of its own: with `null` in place of its identifier, which is resolved already. Resolved
+-- once more against that URI, `sub/a` would mean `sub/sub/a`
+abbrev pub part_tree : Place → Data
+part_tree p = with_nulls ((Key (id_keyword p.reading.draft) ∷ []) ∷ []) p.value
+
 abbrev pub held_part : Place → Document
-held_part p = held p.reading.draft p.base p.value
+held_part p = held p.reading.draft p.base (part_tree p)
 
 -- the places that have URIs of their own
 abbrev pub identified : List Place → List Place

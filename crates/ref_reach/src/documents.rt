@@ -1,9 +1,9 @@
 //! The documents, and what references are looked up in.
-ghost use Rattle.std.specs.Prelude.{◌≡◌, ◌==◌, ◌++◌, ◌∷◌, [], map, length, option_map, IfOk, OnOk};
+ghost use Rattle.std.specs.Prelude.{◌≡◌, ◌==◌, ◌++◌, ◌∷◌, [], map, length, option_map, unwrap_or, IfOk, OnOk};
 ghost use Rattle.serde_json.specs.View.{view};
 ghost use Rattle.ref_index.specs.Contents.{tree_of};
 ghost use Rattle.ref_descriptions.specs.Versions.{version_of};
-ghost use Rattle.ref_reach.specs.Held.{draft_for, tree_read, held, held_source, held_part, identified, layer_held, parts_held};
+ghost use Rattle.ref_reach.specs.Held.{draft_for, tree_read, held, held_source, part_tree, held_part, identified, layer_held, parts_held};
 ghost use Rattle.ref_reach.specs.Places.{AreOwn, own_at};
 ghost use Rattle.ref_reach.specs.Leading.{version_at};
 ghost use Rattle.ref_reach.specs.Views.{source_of, place_of};
@@ -15,7 +15,7 @@ use crate::place::Place;
 use crate::table::{number_text, table_of};
 use ref_descriptions::{Version, version_of};
 use ref_draft::Draft;
-use ref_findings::mended;
+use ref_findings::{mended, with_null_at};
 use ref_index::{Contents, Document, Walked};
 use ref_uri::Uri;
 use serde_json::Value;
@@ -41,14 +41,16 @@ fn draft_in(draft: Draft, value: &Value) -> Draft
     }
 }
 
-// What is in the index in place of a value: a copy with `null` in place of each text that means no URI, where there is such a text.
-fn contents_of<'v>(
+// A copy of a value with `null` in place of each text that means no URI, where there is such a text.
+fn mended_copy(
     alloc: Global,
     uri: &Uri,
-    value: &'v Value,
+    value: &Value,
     draft: Draft,
-) -> Result<Contents<'v>, AllocError>
-    ensures { IfOk result (λ contents. tree_of contents ≡ tree_read draft uri.now (view value.now)) }
+) -> Result<Option<Value>, AllocError>
+    ensures { IfOk result
+        (λ copy. unwrap_or (option_map view copy) (view value.now)
+        ≡ tree_read draft uri.now (view value.now)) }
 {
     let source = ref_findings::Source {
         uri: uri.clone()?,
@@ -56,8 +58,35 @@ fn contents_of<'v>(
     };
     let mut trees = mended(alloc, draft, &[source])?;
     match trees.pop() {
-        Some(Some(tree)) => Ok(Contents::Owned(tree)),
-        _ => Ok(Contents::Borrowed(value)),
+        Some(Some(tree)) => Ok(Some(tree)),
+        _ => Ok(None),
+    }
+}
+
+// Documents and one after them, of these contents.
+fn with_contents<'v>(
+    alloc: Global,
+    walked: Walked<'v>,
+    uri: &Uri,
+    contents: Contents<'v>,
+    draft: Draft,
+) -> Result<Walked<'v>, AllocError>
+    ensures { IfOk result
+        (λ more. more
+        ≡ walked.entry
+        ++ record { uri = uri.now; tree = tree_of contents.entry; draft = draft } ∷ []) }
+{
+    let document = Document {
+        uri: uri.clone()?,
+        contents,
+        draft,
+    };
+    match walked.append(alloc, document) {
+        Ok(walked) => Ok(walked),
+        Err(fault) => {
+            drop(fault);
+            Err(AllocError)
+        }
     }
 }
 
@@ -72,19 +101,30 @@ fn with_document<'v>(
     ensures { IfOk result
         (λ more. more ≡ walked.entry ++ held draft uri.now (view value.now) ∷ []) }
 {
-    let contents = contents_of(alloc, uri, value, draft)?;
-    let document = Document {
-        uri: uri.clone()?,
-        contents,
-        draft: draft.detect(value),
+    let contents = match mended_copy(alloc, uri, value, draft)? {
+        Some(copy) => Contents::Owned(copy),
+        None => Contents::Borrowed(value),
     };
-    match walked.append(alloc, document) {
-        Ok(walked) => Ok(walked),
-        Err(fault) => {
-            drop(fault);
-            Err(AllocError)
-        }
-    }
+    with_contents(alloc, walked, uri, contents, draft.detect(value))
+}
+
+// Documents, and after them a part that has a URI of its own.
+fn with_own_uri<'v>(
+    alloc: Global,
+    walked: Walked<'v>,
+    place: &Place<'v>,
+) -> Result<Walked<'v>, AllocError>
+    ensures { IfOk result
+        (λ more. more ≡ walked.entry ++ held_part (place_of place.now) ∷ []) }
+{
+    let draft = draft_of(place);
+    let tree = with_null_at(alloc, draft.id_keyword(), place.value)?;
+    let detected = draft.detect(&tree);
+    let contents = match mended_copy(alloc, &place.base, &tree, draft)? {
+        Some(copy) => Contents::Owned(copy),
+        None => Contents::Owned(tree),
+    };
+    with_contents(alloc, walked, &place.base, contents, detected)
 }
 
 // The documents one after another.
@@ -131,7 +171,7 @@ fn with_part<'v>(
         document: place.document,
         path: place.path.clone()?,
     })?;
-    with_document(alloc, walked, &place.base, place.value, draft_of(place))
+    with_own_uri(alloc, walked, place)
 }
 
 // The documents, and after them those places that have a URI of their own.
@@ -182,7 +222,8 @@ fn values_of<'v>(alloc: Global, sources: &[Source<'v>]) -> Result<Vec<&'v Value>
 }
 
 /// Documents, with the own places of the descriptions among them, and the index that references are looked up in. The draft is that of
-/// documents that name none and are no descriptions. Linear, but for sorted tables; no value is copied.
+/// documents that name none and are no descriptions. Linear, but for sorted tables; of values those parts alone are copied that have
+/// URIs of their own, and documents with a text that means no URI.
 pub fn documents_of<'v>(
     alloc: Global,
     draft: Draft,
