@@ -73,11 +73,12 @@ impl From<AllocError> for Refusal {
     }
 }
 
-// A text, and the allocator that answers come from.
+// A text, the allocator that answers come from, and the number of the override that is read, from 0.
 #[derive(Clone, Copy, Drop)]
 struct Source<'t> {
     alloc: Global,
     text: &'t str,
+    item: usize,
 }
 
 impl Configuration {
@@ -102,7 +103,11 @@ impl Configuration {
     /// What a text says. It is refused where it isn't TOML 1.1, has a name that there isn't, or a value of another type than is asked for; the first of these by
     /// the order of the names is told.
     pub fn parse(alloc: Global, text: &str) -> Result<Configuration, Refusal> {
-        let source = Source { alloc, text };
+        let source = Source {
+            alloc,
+            text,
+            item: 0,
+        };
         let table = source.table()?;
         source.check_names(&table, TOP, &[])?;
         let mut read = Configuration::new(alloc);
@@ -133,7 +138,7 @@ impl Source<'_> {
 
     // What is wrong with a member of what is at a path of keys.
     fn refused(self, above: &[&str], name: &str, why: Result<String, AllocError>) -> Refusal {
-        match (place_of(self.alloc, self.text, above, name), why) {
+        match (place_of(self.alloc, self.text, above, self.item, name), why) {
             (Ok((line, column)), Ok(text)) => Refusal::At { line, column, text },
             _ => Refusal::Memory,
         }
@@ -324,8 +329,8 @@ impl Source<'_> {
             let why = "a list of tables, each as [[override]], is to be here";
             return Err(self.wrong(&[], "override", why));
         };
-        for item in items.iter() {
-            let one = self.one_override(item)?;
+        for (item, value) in items.iter().enumerate() {
+            let one = Source { item, ..self }.one_override(value)?;
             push_override(&mut list, one)?;
         }
         Ok(list)

@@ -3,12 +3,13 @@ use std::alloc::{AllocError, Global};
 use toml::{Table, Value};
 
 /// The line and the column, from 1, at which a member begins of what a path of keys leads to: the first line that isn't blank and no comment after the longest
-/// beginning of the text that is TOML and doesn't have it. It reads each beginning that ends with a line, so it costs the square of the text, and is
-/// asked only where something is wrong.
+/// beginning of the text that is TOML and doesn't have it. Of a list of tables on the way, and of one that is the member itself, the item with this number is meant,
+/// from 0. It reads each beginning that ends with a line, so it costs the square of the text, and is asked only where something is wrong.
 pub fn place_of(
     alloc: Global,
     text: &str,
     above: &[&str],
+    item: usize,
     name: &str,
 ) -> Result<(usize, usize), AllocError> {
     let mut begin: usize = 0;
@@ -18,7 +19,7 @@ pub fn place_of(
         if byte == b'\n' {
             lines = lines.saturating_add(1);
             let front = text.get(..end).unwrap_or("");
-            match state_of(alloc, front, above, name)? {
+            match state_of(alloc, front, (above, item, name))? {
                 State::Has => break,
                 State::Lacks => {
                     begin = end.saturating_add(1);
@@ -42,9 +43,12 @@ enum State {
     Open,
 }
 
-fn state_of(alloc: Global, text: &str, above: &[&str], name: &str) -> Result<State, AllocError> {
+// The path of keys, the number of the item, and the name.
+type Member<'m> = (&'m [&'m str], usize, &'m str);
+
+fn state_of(alloc: Global, text: &str, member: Member<'_>) -> Result<State, AllocError> {
     match toml::table_from_str(alloc, text) {
-        Ok(table) => Ok(if has(&table, above, name) {
+        Ok(table) => Ok(if has(&table, member) {
             State::Has
         } else {
             State::Lacks
@@ -54,24 +58,32 @@ fn state_of(alloc: Global, text: &str, above: &[&str], name: &str) -> Result<Sta
     }
 }
 
-fn has(table: &Table, above: &[&str], name: &str) -> bool {
+fn has(table: &Table, (above, item, name): Member<'_>) -> bool {
     let Some((first, rest)) = above.split_first() else {
-        return table.get(name).is_some();
+        return table.get(name).is_some_and(|value| is_there(value, item));
     };
     let mut value = table.get(*first);
     for key in rest {
         value = match value {
-            Some(value) => inner(value, *key),
+            Some(value) => inner(value, item, *key),
             None => None,
         };
     }
-    value.is_some_and(|value| inner(value, name).is_some())
+    value.is_some_and(|value| inner(value, item, name).is_some())
 }
 
-// The member of a table, or of the last one of a list of tables.
-fn inner<'v>(value: &'v Value, key: &str) -> Option<&'v Value> {
+// Whether a value is there, and the item of a list with a number. A list without items has the first.
+fn is_there(value: &Value, item: usize) -> bool {
+    match value.as_array() {
+        Some(list) => item == 0 || item < list.len(),
+        None => true,
+    }
+}
+
+// The member of a table, or of the one of a list of tables with this number.
+fn inner<'v>(value: &'v Value, item: usize, key: &str) -> Option<&'v Value> {
     if let Some(list) = value.as_array() {
-        return list.last()?.get(key);
+        return list.get(item)?.get(key);
     }
     value.get(key)
 }

@@ -34,12 +34,13 @@ impl Levels {
         configured: &Configured,
     ) -> Result<Levels, Stop> {
         let configuration = &configured.configuration;
-        let first = chosen_of(rt, configured, &["rules"], configuration.rules.as_slice())?;
+        let rules = configuration.rules.as_slice();
+        let first = chosen_of(rt, configured, (&["rules"], 0), rules)?;
         let mut overrides = Vec::new(rt.alloc());
-        for one in &configuration.overrides {
+        for (item, one) in configuration.overrides.iter().enumerate() {
             let files = files_of(rt, configured, one.files.as_slice())?;
             let rules = one.rules.as_slice();
-            let choices = chosen_of(rt, configured, &["override", "rules"], rules)?;
+            let choices = chosen_of(rt, configured, (&["override", "rules"], item), rules)?;
             let texts = copy_of(rt.alloc(), one.files.as_slice())?;
             let levels = FileLevels {
                 texts,
@@ -191,18 +192,21 @@ fn files_of(
     Ok(files)
 }
 
-// What a configuration sets rules to, in the table at a path of keys.
+// A table of a configuration: a path of keys, and the number of the item of a list on the way.
+type At<'a> = (&'a [&'a str], usize);
+
+// What a configuration sets rules to, in a table of it.
 fn chosen_of(
     rt: &HostRuntime,
     configured: &Configured,
-    above: &[&str],
+    at: At<'_>,
     levels: &[Set],
 ) -> Result<Vec<Chosen<'static>>, Stop> {
     let mut choices = Vec::new(rt.alloc());
     for set in levels {
         let code = set.rule.as_str();
         let Some(own) = rule_named(code) else {
-            say_unknown_in(rt, configured, above, code)?;
+            say_unknown_in(rt, configured, at, code)?;
             return Err(Stop::Reported);
         };
         push(&mut choices, own, level_of(set.level.as_str()))?;
@@ -262,11 +266,11 @@ fn rule_named(code: &str) -> Option<&'static str> {
     None
 }
 
-// Says that a configuration sets a rule that there isn't, with its line and column, where its file can still be read. The rule is in the table at a path of keys.
+// Says that a configuration sets a rule that there isn't in a table of it, with its line and column, where its file can still be read.
 fn say_unknown_in(
     rt: &HostRuntime,
     configured: &Configured,
-    above: &[&str],
+    (above, item): At<'_>,
     code: &str,
 ) -> Result<(), Stop> {
     let name = match &configured.name {
@@ -275,7 +279,7 @@ fn say_unknown_in(
     };
     match fs::read_to_string(rt, name) {
         Ok(text) => {
-            let (line, column) = place_of(rt.alloc(), text.as_str(), above, code)?;
+            let (line, column) = place_of(rt.alloc(), text.as_str(), above, item, code)?;
             let _ = eprintln!(rt;
                 "patchsard: {}:{line}:{column}: there is no rule '{}'",
                 Plain(name),
