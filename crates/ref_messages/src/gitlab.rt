@@ -1,21 +1,48 @@
 //! Messages as a report on code quality, as GitLab reads it.
 use crate::members::{push_member, push_number};
 use crate::message::{Level, Message};
+use crate::unlooked::{Unlooked, text_of as text_of_unlooked};
 use std::alloc::{AllocError, Global};
 
-/// Adds a list with an object for each message. The fingerprint of a message is a text of its rule, its file, its pointer, its keyword and what is under
+/// Adds a list with an object for each message, and after these one for each path that wasn't looked at, of the severity `blocker`. The fingerprint of a message is a text of its rule, its file, its pointer, its keyword and what is under
 /// that, so that it stays where lines are added above it.
 pub fn push_gitlab(
     alloc: Global,
     out: &mut String,
     messages: &[Message<'_>],
+    unlooked: &[Unlooked<'_>],
 ) -> Result<(), AllocError> {
     out.push('[')?;
-    for number in 0..messages.len() {
-        out.push_str(if number == 0 { "\n" } else { ",\n" })?;
-        push_issue(alloc, out, &messages[number])?;
+    let mut before = "\n";
+    for message in messages {
+        out.push_str(before)?;
+        push_issue(alloc, out, message)?;
+        before = ",\n";
+    }
+    for one in unlooked {
+        if let Some(path) = one.path {
+            out.push_str(before)?;
+            push_unlooked(alloc, out, path, *one)?;
+            before = ",\n";
+        }
     }
     out.push_str("\n]\n")
+}
+
+fn push_unlooked(
+    alloc: Global,
+    out: &mut String,
+    path: &str,
+    unlooked: Unlooked<'_>,
+) -> Result<(), AllocError> {
+    let text = text_of_unlooked(alloc, unlooked)?;
+    let print = format!(in alloc; "not-looked-at {path}")?;
+    push_member(alloc, out, "{\"description\":", text.as_str())?;
+    out.push_str(",\"check_name\":\"not-looked-at\"")?;
+    push_member(alloc, out, ",\"fingerprint\":", print.as_str())?;
+    out.push_str(",\"severity\":\"blocker\"")?;
+    push_member(alloc, out, ",\"location\":{\"path\":", path)?;
+    out.push_str(",\"lines\":{\"begin\":1}}}")
 }
 
 fn push_issue(alloc: Global, out: &mut String, message: &Message<'_>) -> Result<(), AllocError> {

@@ -1,18 +1,19 @@
 //! Messages as a report of JUnit, as servers of builds read it.
 use crate::message::{Level, Message};
 use crate::plain::{is_hidden, push_escape};
+use crate::unlooked::Unlooked;
 use std::alloc::AllocError;
 
 const HEAD: &str = "<?xml version=\"1.0\" encoding=\"UTF-8\"?>\n";
 
-/// Adds a report with a case for each message: one of an error has failed, and one of a warning or a note has a text as its output. Where something
-/// wasn't looked at, why is a case more, an error. Else, without messages, there is one case, which has passed.
+/// Adds a report with a case for each message: one of an error has failed, and one of a warning or a note has a text as its output. What wasn't
+/// looked at is a case more each, an error. Without any of these there is one case, which has passed.
 pub fn push_junit(
     out: &mut String,
     messages: &[Message<'_>],
-    unlooked: Option<&str>,
+    unlooked: &[Unlooked<'_>],
 ) -> Result<(), AllocError> {
-    let errors: usize = if unlooked.is_some() { 1 } else { 0 };
+    let errors = unlooked.len();
     let tests = messages.len().saturating_add(errors).max(1);
     let failures = failures_in(messages);
     out.push_str(HEAD)?;
@@ -29,7 +30,12 @@ pub fn push_junit(
     for message in messages {
         push_case(out, message)?;
     }
-    push_last(out, messages.is_empty(), unlooked)?;
+    for one in unlooked {
+        push_unlooked(out, *one)?;
+    }
+    if messages.is_empty() && unlooked.is_empty() {
+        out.push_str("<testcase classname=\"patchsard\" name=\"no findings are listed\"/>\n")?;
+    }
     out.push_str("</testsuite>\n</testsuites>\n")
 }
 
@@ -45,20 +51,12 @@ fn push_counts(
     )
 }
 
-// Adds the case that no message is about.
-fn push_last(out: &mut String, is_alone: bool, unlooked: Option<&str>) -> Result<(), AllocError> {
-    let Some(unlooked) = unlooked else {
-        if !is_alone {
-            return Ok(());
-        }
-        return out.push_str(
-            "<testcase classname=\"patchsard\" name=\"no findings are listed\"/>\n",
-        );
-    };
-    out.push_str(
-        "<testcase classname=\"patchsard\" name=\"looked at\"><error type=\"unlooked\" message=\"",
-    )?;
-    push_escaped(out, unlooked)?;
+// Adds a case of what wasn't looked at.
+fn push_unlooked(out: &mut String, unlooked: Unlooked<'_>) -> Result<(), AllocError> {
+    out.push_str("<testcase classname=\"")?;
+    push_escaped(out, unlooked.path.unwrap_or("patchsard"))?;
+    out.push_str("\" name=\"looked at\"><error type=\"unlooked\" message=\"")?;
+    push_escaped(out, unlooked.why)?;
     out.push_str("\"/></testcase>\n")
 }
 

@@ -19,6 +19,7 @@ mod plain;
 mod sarif;
 mod suggest;
 mod text;
+mod unlooked;
 
 pub use baseline::Baseline;
 pub use components::component_of;
@@ -36,3 +37,4 @@ pub use plain::{Plain, PlainBytes, push_json};
 pub use sarif::{Rule, push_sarif};
 pub use suggest::Suggester;
 pub use text::push_text;
+pub use unlooked::Unlooked;

@@ -2,6 +2,7 @@
 use crate::gitlab::fingerprint;
 use crate::members::{push_member, push_number};
 use crate::message::{Message, Other};
+use crate::unlooked::{Unlooked, text_of as text_of_unlooked};
 use std::alloc::{AllocError, Global};
 
 /// A kind of messages.
@@ -20,15 +21,15 @@ const HEAD: &str =
 const RULES: &str = "https://patchsard.example/docs/RULES.md#";
 
 /// Adds a log of messages, one result a line. Files' names go into it as relative URIs, or `file:` URIs where they are
-/// absolute paths. A region ends where the marked part of a message's excerpt does. What wasn't looked at, where something wasn't, makes the run an unsuccessful one. The
-/// fingerprint of a result is a text of its rule, its file, its pointer, its keyword and what is under that, so that it stays where lines are added above it.
+/// absolute paths. A region ends where the marked part of a message's excerpt does. What wasn't looked at, where something wasn't, makes the run an unsuccessful one, with a
+/// notification of each. The fingerprint of a result is a text of its rule, its file, its pointer, its keyword and what is under that, so that it stays where lines are added above it.
 pub fn push_sarif(
     alloc: Global,
     out: &mut String,
     version: &str,
     rules: &[Rule],
     messages: &[Message<'_>],
-    unlooked: Option<&str>,
+    unlooked: &[Unlooked<'_>],
 ) -> Result<(), AllocError> {
     out.push_str(HEAD)?;
     push_member(alloc, out, ",\"version\":", version)?;
@@ -60,17 +61,35 @@ fn push_rule(alloc: Global, out: &mut String, rule: Rule) -> Result<(), AllocErr
 fn push_invocation(
     alloc: Global,
     out: &mut String,
-    unlooked: Option<&str>,
+    unlooked: &[Unlooked<'_>],
 ) -> Result<(), AllocError> {
     out.push_str(",\"invocations\":[{\"executionSuccessful\":")?;
-    match unlooked {
-        None => out.push_str("true}]"),
-        Some(why) => {
-            out.push_str("false,\"toolExecutionNotifications\":[{\"level\":\"error\"")?;
-            push_member(alloc, out, ",\"message\":{\"text\":", why)?;
-            out.push_str("}}]}]")
-        }
+    if unlooked.is_empty() {
+        return out.push_str("true}]");
     }
+    out.push_str("false,\"toolExecutionNotifications\":[")?;
+    for number in 0..unlooked.len() {
+        out.push_str(if number == 0 { "" } else { "," })?;
+        push_notification(alloc, out, unlooked[number])?;
+    }
+    out.push_str("]}]")
+}
+
+fn push_notification(
+    alloc: Global,
+    out: &mut String,
+    unlooked: Unlooked<'_>,
+) -> Result<(), AllocError> {
+    let text = text_of_unlooked(alloc, unlooked)?;
+    out.push_str("{\"level\":\"error\"")?;
+    push_member(alloc, out, ",\"message\":{\"text\":", text.as_str())?;
+    out.push('}')?;
+    if let Some(path) = unlooked.path {
+        out.push_str(",\"locations\":[")?;
+        push_file(alloc, out, path)?;
+        out.push_str("}}]")?;
+    }
+    out.push('}')
 }
 
 // Adds the results, and what ends the log.
