@@ -1,9 +1,6 @@
 -- Whether references of objects of descriptions, and of what references lead to where no keyword does, lead to the same after documents are changed.
 use Rattle.std.specs.Prelude.{ℕ, zero, Bool, true, false, ◌&&◌, ◌||◌, List, [], ◌∷◌, ◌++◌, map, flat_map, codes, bytes_eq, if◌then◌else◌, Option, Some, None, option_map}
-use Rattle.std.specs.List.{list_any}
-use Rattle.std.specs.Option.{option_map_or}
-use Rattle.serde_json.specs.Data.{Data}
-use Rattle.ref_paths.specs.Path.{Part, Key}
+use Rattle.ref_paths.specs.Path.{Key}
 use Rattle.ref_draft.specs.Names.{draft_name}
 use Rattle.ref_descriptions.specs.declared.reading.Reading.{Reading}
 use Rattle.ref_descriptions.specs.Fields.{kind_name}

@@ -1,2 +1,4 @@
 pub mod Further
+pub mod Rows
 pub mod Views
+pub mod inner

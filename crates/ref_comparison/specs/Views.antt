@@ -2,12 +2,18 @@
 use Rattle.std.specs.Prelude.{string_bytes}
 use Rattle.ref_reach.specs.Views.{place_of}
 use Rattle.ref_reach.specs.Knowing.{known_of}
+use Rattle.ref_reach.specs.Leading.{Known}
+use Rattle.ref_further.specs.declared.survey.Survey as rust_survey
 use Rattle.ref_changes.specs.Views.{moves_in}
 use Rattle.ref_comparison.specs.declared.difference.What as rust_what
 use Rattle.ref_comparison.specs.declared.difference.What.TheVariants as whats
 use Rattle.ref_comparison.specs.declared.difference.Difference as rust_difference
 use Rattle.ref_comparison.specs.declared.sides.Sides as rust_sides
 use Rattle.ref_comparison.specs.Further.{Sides, What, NoPlace, OtherBase, OtherReferences, OtherTarget, Difference}
+
+-- what is known of the documents of a survey
+abbrev pub known_in : rust_survey.Survey → Known
+known_in s = known_of s.documents
 
 abbrev pub sides_of : rust_sides.Sides → Sides
 sides_of s =

@@ -4,9 +4,12 @@
 //! Read `specs/Further.antt` first, upon `Moves.antt` of `ref_changes` and `Leading.antt` of `ref_reach`.
 #![tactic(auto)]
 
+mod after;
 mod difference;
+pub mod examples;
 mod further;
 mod names;
+mod pairs;
 mod sides;
 
 pub use difference::{Difference, What};
