@@ -4,10 +4,12 @@ use crate::given::Given;
 use crate::keys::change_of;
 use crate::names::is_anchor_name;
 use crate::plan::{Change, Part, Plan, Refusal, Site, Unmade, joined, push_change, under_keyword};
-use crate::uses::{Form, Use, described_documents, is_true, led_from, places_of, uses_of};
+use crate::uses::{Form, Use, led_from, places_of, uses_of};
+use ref_descriptions::Kind;
 use ref_draft::Draft;
 use ref_index::meanings::text_under;
 use ref_parts::pointer_of;
+use ref_reach::Place as Surveyed;
 use ref_uri::Uri;
 use ref_uri::parts::parts;
 use referencing::{Place, Registry};
@@ -23,14 +25,15 @@ pub(crate) struct Schema<'w> {
     pub base: Rc<Uri>,
 }
 
-/// The schema at a place, which is in no description.
+/// The schema at a place, which is in no description. A document that descriptions refer to as a whole has schemas where it is a schema itself.
 pub(crate) fn schema_at<'w>(
     alloc: Global,
     given: &Given<'_, 'w, '_, '_>,
     site: Site<'_>,
 ) -> Result<Option<Schema<'w>>, AllocError> {
-    let described = described_documents(alloc, given)?;
-    if is_true(described.as_slice(), site.document) {
+    if has_other_root(given.survey.own(), site.document)
+        || has_other_root(given.survey.described(), site.document)
+    {
         return Ok(None);
     }
     for place in places_of(alloc, given.registry)? {
@@ -45,6 +48,19 @@ pub(crate) fn schema_at<'w>(
         }
     }
     Ok(None)
+}
+
+// Whether the root of a document is among these places as another object than a schema.
+fn has_other_root(places: &[Surveyed<'_>], document: usize) -> bool {
+    for place in places {
+        if place.document == document
+            && place.path.parent().is_none()
+            && place.reading.kind != Kind::Schema
+        {
+            return true;
+        }
+    }
+    false
 }
 
 fn is_at(alloc: Global, place: &Place<'_>, pointer: &str) -> Result<bool, AllocError> {

@@ -84,8 +84,8 @@ impl Uris {
     }
 }
 
-// A text as a URI.
-fn parsed(alloc: Global, text: &str) -> Result<Option<Uri>, AllocError> {
+/// A text as a URI.
+pub(crate) fn parsed(alloc: Global, text: &str) -> Result<Option<Uri>, AllocError> {
     match from_str(alloc, text) {
         Ok(uri) => Ok(Some(uri)),
         Err(UriFault::Memory(error)) => Err(error),
