@@ -4,7 +4,7 @@ use Rattle.std.specs.Option.{option_map_or}
 use Rattle.serde_json.specs.Data.{Data}
 use Rattle.serde_json.specs.Find.{get, as_str}
 use Rattle.ref_protocol.specs.declared.methods.Method.{Method}
-use Rattle.ref_protocol.specs.declared.methods.Method.TheVariants.{Initialize, Exit, Definition, References, Hover, DocumentLink, Completion, PrepareRename, Rename, Diagnostic}
+use Rattle.ref_protocol.specs.declared.methods.Method.TheVariants.{Initialize, Exit, Definition, References, Hover, DocumentLink, Completion, PrepareRename, Rename, WillRenameFiles, Diagnostic}
 use Rattle.ref_protocol.specs.declared.methods.Phase.{Phase}
 use Rattle.ref_protocol.specs.declared.methods.Phase.TheVariants.{New, Running, ShutDown}
 use Rattle.ref_protocol.specs.Methods.{is_notification}
@@ -24,6 +24,7 @@ needs_view DocumentLink = true
 needs_view Completion = true
 needs_view PrepareRename = true
 needs_view Rename = true
+needs_view WillRenameFiles = true
 needs_view other = false
 
 -- a registry of all documents, or that for one, serves what is asked of all, or of one: that for one serves what is asked of the same, where

@@ -528,8 +528,8 @@ impl<'r> Desk<'r> {
         Ok(false)
     }
 
-    // The URI of the document at a path, where it has one.
-    fn uri_at(&self, path: &str) -> Result<Option<Uri>, AllocError> {
+    /// The URI of the document at a path, where it has one.
+    pub(crate) fn uri_at(&self, path: &str) -> Result<Option<Uri>, AllocError> {
         let alloc = self.alloc();
         if !path.starts_with('/') {
             return parsed_uri(alloc, path);

@@ -16,6 +16,7 @@ mod keys;
 mod life;
 mod links;
 mod mapped;
+mod moved;
 mod references;
 mod rename;
 mod server;

@@ -14,7 +14,7 @@ use std::alloc::{AllocError, Global};
 
 /// What the server can, after the encoding of positions.
 const CAPABILITIES: &str =
-    ",\"textDocumentSync\":{\"openClose\":true,\"change\":2,\"save\":{\"includeText\":false}},\"definitionProvider\":true,\"referencesProvider\":true,\"hoverProvider\":true,\"documentLinkProvider\":{\"resolveProvider\":false},\"documentSymbolProvider\":true,\"workspaceSymbolProvider\":true,\"completionProvider\":{\"triggerCharacters\":[\"\\\"\",\"'\",\"#\",\"/\"],\"resolveProvider\":false},\"renameProvider\":{\"prepareProvider\":true},\"codeActionProvider\":{\"codeActionKinds\":[\"quickfix\"]},\"workspace\":{\"workspaceFolders\":{\"supported\":true,\"changeNotifications\":true}}";
+    ",\"textDocumentSync\":{\"openClose\":true,\"change\":2,\"save\":{\"includeText\":false}},\"definitionProvider\":true,\"referencesProvider\":true,\"hoverProvider\":true,\"documentLinkProvider\":{\"resolveProvider\":false},\"documentSymbolProvider\":true,\"workspaceSymbolProvider\":true,\"completionProvider\":{\"triggerCharacters\":[\"\\\"\",\"'\",\"#\",\"/\"],\"resolveProvider\":false},\"renameProvider\":{\"prepareProvider\":true},\"codeActionProvider\":{\"codeActionKinds\":[\"quickfix\"]},\"workspace\":{\"workspaceFolders\":{\"supported\":true,\"changeNotifications\":true},\"fileOperations\":{\"willRename\":{\"filters\":[{\"scheme\":\"file\",\"pattern\":{\"glob\":\"**\"}}]}}}";
 
 const PULLED: &str =
     ",\"diagnosticProvider\":{\"identifier\":\"patchsard\",\"interFileDependencies\":true,\"workspaceDiagnostics\":true}";

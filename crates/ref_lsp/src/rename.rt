@@ -111,12 +111,13 @@ pub fn rename(desk: &Desk<'_>, view: &View<'_, '_>, params: &Value) -> Result<St
         texts: texts.as_slice(),
         draft: desk.workspace.draft(),
     };
-    let edits = checked(desk.alloc(), &given, &named, name)?;
+    let plan = planned(desk.alloc(), &given, &named, name);
+    let edits = checked(desk.alloc(), &given, plan)?;
     Ok(edit_text(desk, view, &given, edits.as_slice())?)
 }
 
-// The texts of the documents of the registry, by their numbers: those that the client may change. One whose open text has no value can't be changed.
-fn texts_of<'d>(
+/// The texts of the documents of the registry, by their numbers: those that the client may change. One whose open text has no value can't be changed.
+pub(crate) fn texts_of<'d>(
     desk: &'d Desk<'_>,
     view: &View<'_, '_>,
 ) -> Result<Vec<Option<Written<'d>>>, AllocError> {
@@ -142,14 +143,13 @@ fn written_of<'d>(desk: &'d Desk<'_>, source: usize) -> Option<Written<'d>> {
     })
 }
 
-// What is replaced, where it is allowed and nothing differs after it.
-fn checked(
+/// What a plan replaces, where it is one, and nothing differs after it: else the reason why it can't be done.
+pub(crate) fn checked(
     alloc: Global,
     given: &Given<'_, '_, '_, '_>,
-    named: &Named,
-    name: &str,
+    plan: Result<Plan, Unmade>,
 ) -> Result<Vec<Edit>, Refusal> {
-    match checked_in(alloc, given, named, name) {
+    match checked_in(alloc, given, plan) {
         Ok(Some(edits)) => Ok(edits),
         Ok(None) => Err(Refusal::Failed(
             "a reference would lead elsewhere, or a schema would be read in another way",
@@ -166,10 +166,9 @@ fn checked(
 fn checked_in(
     alloc: Global,
     given: &Given<'_, '_, '_, '_>,
-    named: &Named,
-    name: &str,
+    plan: Result<Plan, Unmade>,
 ) -> Result<Option<Vec<Edit>>, Unmade> {
-    let plan = planned(alloc, given, named, name)?;
+    let plan = plan?;
     let edits = edits_of(alloc, given, plan.changes.as_slice())?;
     match difference_of(alloc, given, &plan, edits.as_slice())? {
         Some(told) => {
@@ -193,8 +192,8 @@ fn planned(
     }
 }
 
-// The workspace edit of what is replaced.
-fn edit_text(
+/// The workspace edit of what is replaced.
+pub(crate) fn edit_text(
     desk: &Desk<'_>,
     view: &View<'_, '_>,
     given: &Given<'_, '_, '_, '_>,

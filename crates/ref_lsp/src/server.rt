@@ -12,6 +12,7 @@ use crate::desk::Desk;
 use crate::hover::hover;
 use crate::life::{initialize, renewal, watch};
 use crate::links::links;
+use crate::moved::will_rename;
 use crate::references::references;
 use crate::rename::{prepare_rename, rename};
 use crate::session::Session;
@@ -363,6 +364,7 @@ fn needs_view(method: Method) -> bool
             | Method::Completion
             | Method::PrepareRename
             | Method::Rename
+            | Method::WillRenameFiles
     )
 }
 
@@ -456,6 +458,7 @@ fn by_view(desk: &Desk<'_>, view: &View<'_, '_>, call: &Call) -> Result<String, 
         Method::DocumentLink => links(desk, view, params),
         Method::PrepareRename => prepare_rename(desk, view, params),
         Method::Rename => rename(desk, view, params),
+        Method::WillRenameFiles => will_rename(desk, view, params),
         _ => completion(desk, view, params),
     }
 }

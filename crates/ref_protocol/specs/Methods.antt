@@ -1,7 +1,7 @@
 -- Methods of the Language Server Protocol 3.17, and when each is due ("Lifecycle Messages"; JSON-RPC 2.0, 4.1).
 use Rattle.std.specs.Prelude.{ℕ, List, Bool, true, false, Option, Some, None, codes, bytes_eq, if◌then◌else◌}
 use Rattle.ref_protocol.specs.declared.methods.Method.{Method}
-use Rattle.ref_protocol.specs.declared.methods.Method.TheVariants.{Initialize, Initialized, DidOpen, DidChange, DidSave, DidClose, DidChangeFiles, DidChangeFolders, Definition, References, Hover, DocumentLink, Completion, PrepareRename, Rename, CodeAction, Diagnostic, DocumentSymbol, WorkspaceSymbol, Shutdown, Exit}
+use Rattle.ref_protocol.specs.declared.methods.Method.TheVariants.{Initialize, Initialized, DidOpen, DidChange, DidSave, DidClose, DidChangeFiles, DidChangeFolders, Definition, References, Hover, DocumentLink, Completion, PrepareRename, Rename, WillRenameFiles, CodeAction, Diagnostic, DocumentSymbol, WorkspaceSymbol, Shutdown, Exit}
 use Rattle.ref_protocol.specs.declared.methods.Phase.{Phase}
 use Rattle.ref_protocol.specs.declared.methods.Phase.TheVariants.{New, Running, ShutDown}
 use Rattle.ref_protocol.specs.declared.methods.Due.{Due}
@@ -27,12 +27,13 @@ method_named s =
     else (if bytes_eq s (codes "textDocument/completion") then Some Completion
     else (if bytes_eq s (codes "textDocument/prepareRename") then Some PrepareRename
     else (if bytes_eq s (codes "textDocument/rename") then Some Rename
+    else (if bytes_eq s (codes "workspace/willRenameFiles") then Some WillRenameFiles
     else (if bytes_eq s (codes "textDocument/codeAction") then Some CodeAction
     else (if bytes_eq s (codes "textDocument/diagnostic") then Some Diagnostic
     else (if bytes_eq s (codes "textDocument/documentSymbol") then Some DocumentSymbol
     else (if bytes_eq s (codes "workspace/symbol") then Some WorkspaceSymbol
     else (if bytes_eq s (codes "shutdown") then Some Shutdown
-    else (if bytes_eq s (codes "exit") then Some Exit else None))))))))))))))))))))
+    else (if bytes_eq s (codes "exit") then Some Exit else None)))))))))))))))))))))
 
 -- a method of a notification, which gets no answer, and not of a request
 abbrev pub is_notification : Method → Bool

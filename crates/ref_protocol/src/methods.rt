@@ -37,6 +37,8 @@ pub enum Method {
     PrepareRename,
     /// `textDocument/rename`: what is changed where that gets another name.
     Rename,
+    /// `workspace/willRenameFiles`: what is changed where files or folders get other paths.
+    WillRenameFiles,
     /// `textDocument/codeAction`: what mends something.
     CodeAction,
     /// `textDocument/diagnostic`: what is wrong with a document.
@@ -71,6 +73,7 @@ pub fn method_named(name: &str) -> Option<Method>
         "textDocument/completion" => Some(Method::Completion),
         "textDocument/prepareRename" => Some(Method::PrepareRename),
         "textDocument/rename" => Some(Method::Rename),
+        "workspace/willRenameFiles" => Some(Method::WillRenameFiles),
         "textDocument/codeAction" => Some(Method::CodeAction),
         "textDocument/diagnostic" => Some(Method::Diagnostic),
         "textDocument/documentSymbol" => Some(Method::DocumentSymbol),
