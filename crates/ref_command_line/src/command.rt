@@ -73,6 +73,7 @@ enum Word {
     Output,
     Minify,
     Strict,
+    KeepTexts,
     Base,
     Draft,
     Map,
@@ -286,6 +287,7 @@ fn words_of(subcommand: Subcommand) -> &'static [Word] {
             Word::Output,
             Word::Minify,
             Word::Strict,
+            Word::KeepTexts,
             Word::Base,
             Word::Draft,
             Word::Map,
@@ -651,6 +653,12 @@ fn row_of<'c>(word: Word) -> Row<'c> {
             "",
             Kind::Flag,
             "Refuse a bundle with an unresolvable pointer or anchor, and write nothing",
+        ),
+        Word::KeepTexts => named(
+            "keep-texts",
+            "",
+            Kind::Flag,
+            "Refuse a bundle in which a reference would have to be written otherwise, and write nothing",
         ),
         Word::Output => named(
             "output",

@@ -3,8 +3,9 @@ use crate::made::is_text_of;
 use crate::message::message_at;
 use crate::opened::{Opened, open_file, reported};
 use crate::pieces::{Pieces, definitions};
+use crate::rewriting::name_by_identifiers;
 use clap::ArgMatches;
-use ref_bundle::{BundleParts, Embedded, Spot, bundle_parts};
+use ref_bundle::{BundleError, BundleParts, Embedded, Problem as Refused, Spot, bundle_parts};
 use ref_command_line::{Configured, Console, Stop, say, say_failures, say_of};
 use ref_descriptions::version_of;
 use ref_draft::Draft;
@@ -34,30 +35,46 @@ pub fn bundle<'a>(
     given: &ArgMatches<'a>,
     configured: &'a Configured,
 ) -> Result<u8, Stop> {
-    let opened = open_file(rt, given, configured, given.get_str("output"))?;
+    let mut opened = open_file(rt, given, configured, given.get_str("output"))?;
     let status = if opened.has_failed {
         Ok(2)
     } else {
-        bundle_opened(rt, console, given, &opened)
+        bundle_named(rt, console, given, &mut opened)
     };
     drop(opened);
     status
 }
 
-// The bundle of what was read.
+// The bundle of what was read. Where documents have to be named by their identifiers for it, they are.
+fn bundle_named(
+    rt: &HostRuntime,
+    console: &mut Console<'_>,
+    given: &ArgMatches<'_>,
+    opened: &mut Opened<'_>,
+) -> Result<u8, Stop> {
+    if refuses_description(rt, &*opened) {
+        return Ok(1);
+    }
+    let may_name = !given.get_flag("keep-texts");
+    if let Some(status) = bundle_opened(rt, console, given, &*opened, may_name)? {
+        return Ok(status);
+    }
+    name_by_identifiers(rt, opened)?;
+    let status = bundle_opened(rt, console, given, &*opened, false)?;
+    Ok(status.unwrap_or(1))
+}
+
+// The status of the bundle of what was read: none where documents may be named by their identifiers, and have to be.
 fn bundle_opened(
     rt: &HostRuntime,
     console: &mut Console<'_>,
     given: &ArgMatches<'_>,
     opened: &Opened<'_>,
-) -> Result<u8, Stop> {
-    if refuses_description(rt, opened) {
-        return Ok(1);
-    }
-    let opened = &*opened;
+    may_name: bool,
+) -> Result<Option<u8>, Stop> {
     let report = opened.report(rt.alloc())?;
     let outside = reported(rt, outside_of(rt.alloc(), report.findings.as_slice()))?;
-    bundle_above(rt, console, given, opened, &report, &outside)
+    bundle_above(rt, console, given, opened, (&report, may_name), &outside)
 }
 
 // Whether the root is a description, which isn't bundled; and says so.
@@ -82,9 +99,9 @@ fn bundle_above<'s, 'd, 'r>(
     console: &mut Console<'_>,
     given: &'s ArgMatches<'_>,
     opened: &'d Opened<'_>,
-    report: &'s Report<'r>,
+    (report, may_name): (&'s Report<'r>, bool),
     outside: &'d Registry<'_>,
-) -> Result<u8, Stop> {
+) -> Result<Option<u8>, Stop> {
     let trees = opened.workspace.mended(rt.alloc())?;
     let world = world_above(rt.alloc(), outside, &opened.workspace, trees.as_slice());
     let world = reported(rt, world)?;
@@ -98,12 +115,29 @@ fn bundle_above<'s, 'd, 'r>(
         further: further.as_slice(),
     };
     match bundle_parts(rt.alloc(), &world.registry, further.as_slice(), 0) {
-        Ok(parts) => sources.write(console, &parts),
+        Ok(parts) => {
+            if may_name && sources.is_root_replaced(&parts)? {
+                return Ok(None);
+            }
+            Ok(Some(sources.write(console, &parts)?))
+        }
         Err(error) => {
+            if may_name && is_replaced(&error) {
+                drop(error);
+                return Ok(None);
+            }
             let status = sources.refuse(&error);
             drop(error);
-            status
+            Ok(Some(status?))
         }
+    }
+}
+
+// Whether a reference names a document by a URI in place of which its identifier gives another.
+fn is_replaced(error: &BundleError<'_>) -> bool {
+    match error {
+        BundleError::Refused(refusal) => matches!(refusal.problem, Refused::ReplacedUri { .. }),
+        BundleError::Memory(_) => false,
     }
 }
 
@@ -135,6 +169,40 @@ impl<'s, 'a, 'd, 'r, 'm, 'w, 'o> Sources<'s, 'a, 'd, 'r, 'm, 'w, 'o> {
     /// The number of what was read as a document, where it was read.
     pub fn source(&self, document: usize) -> Option<usize> {
         self.world.sources.get(document).copied()
+    }
+
+    // Whether a place that is needed refers to the root by a URI that its identifier replaces.
+    fn is_root_replaced(&self, parts: &BundleParts<'_>) -> Result<bool, Stop> {
+        let alloc = self.rt.alloc();
+        let places = self.places()?;
+        let Some(replaced) = self.replaced(places.as_slice()) else {
+            return Ok(false);
+        };
+        let embedded = parts.listed(alloc)?;
+        let needed = self.needed(embedded.as_slice())?;
+        for place in &places {
+            if let Some(number) = self.source(place.document) {
+                if is_true(needed.as_slice(), number) && self.names(place, replaced)? {
+                    return Ok(true);
+                }
+            }
+        }
+        Ok(false)
+    }
+
+    // Whether a reference of a place without its fragment gives a URI.
+    fn names(&self, place: &Place<'_>, uri: &str) -> Result<bool, AllocError> {
+        for keyword in ["$ref", "$dynamicRef"] {
+            if let Some(text) = place.value.get(keyword).and_then(Value::as_str) {
+                let (front, _) = text.rsplit_once('#').unwrap_or((text, ""));
+                if let Some(given) = self.world.resolved(self.rt.alloc(), place, front)? {
+                    if given.as_str() == uri {
+                        return Ok(true);
+                    }
+                }
+            }
+        }
+        Ok(false)
     }
 
     fn write(&self, console: &mut Console<'_>, parts: &BundleParts<'_>) -> Result<u8, Stop> {

@@ -34,16 +34,20 @@ pub(crate) fn surveyed<'w>(alloc: Global, world: &'w World<'_>) -> Result<Survey
     survey_of(alloc, &world.registry)
 }
 
-/// The texts of the documents of a registry that may be changed, by their numbers: those of files that were given.
+/// The texts of the documents of a registry that may be changed, by their numbers: those of files that were given, and that of standard input where it may be.
 pub(crate) fn texts_of<'e>(
     alloc: Global,
     opened: &'e Opened<'_>,
     world: &World<'_>,
+    has_input: bool,
 ) -> Result<Vec<Option<Written<'e>>>, AllocError> {
     let mut texts = Vec::new(alloc);
     for number in 0..world.registry.documents().len() {
         let text = match world.sources.get(number) {
-            Some(source) => written_of(opened, *source),
+            Some(source) if has_input || opened.input != Some(*source) => {
+                written_of(opened, *source)
+            }
+            Some(_) => None,
             None => None,
         };
         texts.push(text)?;
@@ -51,9 +55,9 @@ pub(crate) fn texts_of<'e>(
     Ok(texts)
 }
 
-// The text of what was read with a number, where it may be changed.
+// The text of what was read with a number, where it is that of a file that was given or of standard input.
 fn written_of<'e>(opened: &'e Opened<'_>, source: usize) -> Option<Written<'e>> {
-    if opened.workspace.opened() <= source || opened.input == Some(source) {
+    if opened.workspace.opened() <= source {
         return None;
     }
     let document = opened.workspace.documents().get(source)?;
@@ -120,7 +124,8 @@ impl<'e, 's, 'w, 'd, 't> Editing<'_, 'e, 's, '_, 'w, 'd, 't> {
         }
     }
 
-    fn checked(&self, plan: Result<Plan, Unmade>) -> Result<Checked, Unmade> {
+    /// What a plan comes to, where it is one, or what differs after it.
+    pub fn checked(&self, plan: Result<Plan, Unmade>) -> Result<Checked, Unmade> {
         let alloc = self.rt.alloc();
         let plan = plan?;
         let given = self.given();
@@ -277,10 +282,12 @@ pub(crate) struct Count<'n> {
     pub parts: usize,
 }
 
-// A change whose outcome was looked at.
+/// A change whose outcome was looked at.
 #[derive(Drop)]
-enum Checked {
+pub(crate) enum Checked {
+    /// All references lead where they led.
     Same(Made),
+    /// Something differs.
     Differs(Told),
 }
 

@@ -24,6 +24,7 @@ mod printed;
 mod refusals;
 pub mod rename;
 pub mod resolve;
+mod rewriting;
 mod shown;
 mod together;
 mod unused_silences;

@@ -11,8 +11,8 @@ use clap::ArgMatches;
 use ref_command_line::{Configured, Console, Stop, say};
 use ref_findings::Problem;
 use ref_messages::{
-    Level, Message, push_annotation, push_full, push_gitlab, push_junit, push_line, push_sarif,
-    push_text,
+    Level, Message, Unlooked, push_annotation, push_full, push_gitlab, push_junit, push_line,
+    push_sarif, push_text,
 };
 use ref_workspace::{Describer, Document, Finding, RULES, UnusedSilence};
 use std::alloc::{AllocError, Global};
@@ -345,30 +345,47 @@ fn print_whole<'d>(
         }
     }
     let messages = messages.as_slice();
+    let unlooked = unlooked_of(alloc, opened, tally.count)?;
+    let unlooked = unlooked.as_slice();
     match listing.form {
-        Form::GitLab => push_gitlab(alloc, &mut console.out, messages),
-        Form::JUnit => push_junit(&mut console.out, messages, unlooked(opened, tally.count)),
-        _ => push_sarif(
-            alloc,
-            &mut console.out,
-            "0.1.0",
-            RULES,
-            messages,
-            unlooked(opened, tally.count),
-        ),
+        Form::GitLab => push_gitlab(alloc, &mut console.out, messages, unlooked),
+        Form::JUnit => push_junit(&mut console.out, messages, unlooked),
+        _ => push_sarif(alloc, &mut console.out, "0.1.0", RULES, messages, unlooked),
     }
 }
 
-// Why something wasn't looked at, where it wasn't.
-fn unlooked(opened: &Opened<'_>, count: Count) -> Option<&'static str> {
-    if opened.has_failed {
-        return Some("a path couldn't be read: standard error says which");
+// What wasn't looked at: the paths that couldn't be read, or else all, where nothing was looked at.
+fn unlooked_of<'o>(
+    alloc: Global,
+    opened: &'o Opened<'_>,
+    count: Count,
+) -> Result<Vec<Unlooked<'o>>, AllocError> {
+    let mut list = Vec::new(alloc);
+    for failure in &opened.failures {
+        if opened.has_failed {
+            let path = Some(failure.path.as_str());
+            let why = failure.why.as_str();
+            push_unlooked(&mut list, Unlooked { path, why })?;
+        }
     }
-    if count.is_looked_at(opened.workspace.asked()) {
-        None
+    let why = if opened.has_failed {
+        "a path couldn't be read: standard error says which"
     } else {
-        Some("nothing was looked at")
+        "nothing was looked at"
+    };
+    let is_all = !opened.has_failed && count.is_looked_at(opened.workspace.asked());
+    if list.is_empty() && !is_all {
+        push_unlooked(&mut list, Unlooked { path: None, why })?;
     }
+    Ok(list)
+}
+
+fn push_unlooked<'o>(
+    list: &mut Vec<Unlooked<'o>>,
+    unlooked: Unlooked<'o>,
+) -> Result<(), AllocError> {
+    list.push(unlooked)?;
+    Ok(())
 }
 
 fn keep<'m>(messages: &mut Vec<Message<'m>>, message: Message<'m>) -> Result<(), AllocError> {

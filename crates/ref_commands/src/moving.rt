@@ -6,7 +6,7 @@ use crate::together::{NewText, replace_all, restore_all};
 use clap::ArgMatches;
 use ref_command_line::options::base_of;
 use ref_command_line::{Configured, Console, Stop, say, say_of};
-use ref_edits::moved_documents;
+use ref_edits::{moved_documents, moved_uri, rest_below};
 use ref_files::{Format, below_prefix, file_uri, names_of, path_below, uri_below};
 use ref_messages::Plain;
 use ref_uri::uri::from_str;
@@ -127,16 +127,6 @@ fn folder_and_name(path: &str) -> (&str, &str) {
     }
 }
 
-// What follows a path in another one, where that is the same or below it: nothing, or a slash and more.
-fn rest_below<'p>(path: &str, other: &'p str) -> Option<&'p str> {
-    let rest = other.strip_prefix(path)?;
-    if rest.is_empty() || rest.starts_with('/') {
-        Some(rest)
-    } else {
-        None
-    }
-}
-
 // A file or a folder that is moved.
 #[derive(Clone, Copy, Drop)]
 struct Moving<'r, 'g, 'm> {
@@ -171,7 +161,7 @@ impl Moving<'_, '_, '_> {
         world: &World<'_>,
     ) -> Result<u8, Stop> {
         let alloc = self.rt.alloc();
-        let texts = texts_of(alloc, opened, world)?;
+        let texts = texts_of(alloc, opened, world, false)?;
         let survey = surveyed(alloc, world)?;
         let editing = Editing {
             rt: self.rt,
@@ -283,15 +273,8 @@ impl Moving<'_, '_, '_> {
         let (None, Some(document)) = (self.base, world.registry.documents().get(number)) else {
             return Ok(None);
         };
-        let from = file_uri(alloc, self.paths.from.as_str())?;
-        match rest_below(from.as_str(), document.uri.as_str()) {
-            Some(rest) if !rest.is_empty() => {
-                let to = file_uri(alloc, self.paths.to.as_str())?;
-                let text = joined(alloc, to.as_str(), rest)?;
-                parsed(alloc, text.as_str())
-            }
-            _ => Ok(None),
-        }
+        let (from, to) = (self.paths.from.as_str(), self.paths.to.as_str());
+        moved_uri(alloc, from, to, &document.uri)
     }
 
     // Prints what would change, or writes it and moves the path.

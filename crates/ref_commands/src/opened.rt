@@ -5,8 +5,8 @@ use ref_command_line::options::{maps, reading_of, say_unused};
 use ref_command_line::{Configured, Progress, Reading, Stop, say, say_failures};
 use ref_error::Error;
 use ref_files::{
-    BrokenFile, Buffer, File, Format, Listed, Maps, ReadFile, ReadFiles, ReadSoFar, list_files,
-    list_one,
+    BrokenFile, Buffer, Failure, File, Format, Listed, Maps, ReadFile, ReadFiles, ReadSoFar,
+    list_files, list_one,
 };
 use ref_messages::Plain;
 use ref_workspace::{Document, Report, Workspace};
@@ -23,6 +23,8 @@ pub struct Opened<'r> {
     pub maps: Maps<'r>,
     /// Whether a path couldn't be read, which standard error says.
     pub has_failed: bool,
+    /// What couldn't be read, and links that were passed over.
+    pub failures: Vec<Failure>,
     /// The number of the document that was read from standard input, where one was.
     pub input: Option<usize>,
     /// How many files of YAML below folders were passed over.
@@ -112,12 +114,16 @@ fn open_listed<'r>(
     let read = read?;
     say_failures(rt, &read.failures);
     let has_failed = listed.failures.has_failed || read.failures.has_failed;
+    let mut failures = listed.failures.list;
+    let mut unread = read.failures.list;
+    failures.append(&mut unread)?;
     let maps = maps(rt, reading.maps.as_slice())?;
     let mut opened = Opened {
         workspace: Workspace::new(rt.alloc(), reading.draft),
         paths: Vec::new(rt.alloc()),
         maps,
         has_failed,
+        failures,
         input: None,
         passed: read.passed.len(),
         ignored: listed.ignored,

@@ -68,7 +68,7 @@ fn rename_world(
     world: &World<'_>,
     path: &str,
 ) -> Result<u8, Stop> {
-    let texts = texts_of(rt.alloc(), opened, world)?;
+    let texts = texts_of(rt.alloc(), opened, world, false)?;
     let survey = surveyed(rt.alloc(), world)?;
     let editing = Editing {
         rt,
