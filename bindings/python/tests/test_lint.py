@@ -180,17 +180,17 @@ class Refused(Files):
                 lint(self.room)
 
     def test_time_that_runs_out(self):
-        with self.program("exec sleep 60"):
+        with self.program("exec sleep 600"):
             begin = time.monotonic()
             with self.assertRaises(patchsard.CallTimedOut) as raised:
                 lint(self.room, timeout=0.3)
         self.assertIsInstance(raised.exception, TimeoutError)
-        self.assertTrue(0.25 < time.monotonic() - begin < 20)
+        self.assertTrue(0.25 < time.monotonic() - begin < 300)
 
     def test_standard_input_is_not_read(self):
         self.write("a.json", {})
         code = f"import patchsard; print(patchsard.lint({self.room!r}).status); print(input())"
-        done = subprocess.run([sys.executable, "-B", "-c", code], input=b"left\n", stdout=subprocess.PIPE, timeout=60, check=False)
+        done = subprocess.run([sys.executable, "-B", "-c", code], input=b"left\n", stdout=subprocess.PIPE, timeout=300, check=False)
         self.assertEqual(done.stdout, b"0\nleft\n")
 
 

@@ -137,7 +137,7 @@ class Validators(unittest.TestCase):
         validator = validator_for({"items": {"$ref": "https://example.com/b"}}, registry=Registry({"https://example.com/b": {"type": "string"}}))
         with concurrent.futures.ProcessPoolExecutor(2) as pool:
             jobs = [pool.submit(validator.is_valid, it) for it in (["a"], [1], [])]
-            self.assertEqual([it.result(60) for it in jobs], [True, False, True])
+            self.assertEqual([it.result(300) for it in jobs], [True, False, True])
 
     def test_a_registry_that_is_given_to_jsonschema(self):
         with self.assertRaisesRegex(TypeError, "validator_for"):
