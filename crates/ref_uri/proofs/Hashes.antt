@@ -14,7 +14,7 @@ is_hash c = eqb c 35
 
 -- ---- a text without a `#`, and one with it
 
-no_hash : (text : List ℕ) → ((i : ℕ) → i < length text → get_or text i 0 ≢ 35) → list_any is_hash text ≡ false
+pub no_hash : (text : List ℕ) → ((i : ℕ) → i < length text → get_or text i 0 ≢ 35) → list_any is_hash text ≡ false
 no_hash [] none = refl
 no_hash (c ∷ text) none = rw (ne_eqb c 35 (none 0 (omega arith))) (no_hash text (λ i l. none (suc i) (omega arith)))
 

@@ -2,6 +2,8 @@
 ghost use Rattle.std.specs.Prelude.{◌≡◌};
 ghost use Rattle.ref_uri.specs.Targets as uri;
 
+use crate::blocks::may_hold;
+
 /// What is before the last `#` of a reference, which is the whole where there is none, and its fragment: what follows a `#` in
 /// front, or else the last `#`.
 #[inline(always)]
@@ -9,7 +11,7 @@ pub fn parts(reference: &str) -> (&str, &str)
     ensures uri { result.0.now ≡ uri.uri_part reference.now }
     ensures fragment { result.1.now ≡ uri.fragment_part reference.now }
 {
-    if reference.as_bytes().contains(&b'#') {
+    if may_hold(reference.as_bytes(), b'#') {
         parts_around_hash(reference)
     } else {
         (reference, "")
