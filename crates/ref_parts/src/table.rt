@@ -1,8 +1,9 @@
 //! A table that is made once and then searched: from pairs of texts to values.
-ghost use Rattle.std.specs.Prelude.{◌≡◌, ℕ, ◌+◌, ◌-◌, ◌^◌, ◌<◌, ◌≤◌, ◌&&◌, All, List, [], ◌∷◌, option_copied, IsUtf8, map, reverse, length, take, drop, ◌++◌, IfOk, IfSome, Some, OnOk, OnErr};
+ghost use Rattle.std.specs.Prelude.{◌≡◌, ℕ, ◌+◌, ◌-◌, ◌^◌, ◌<◌, ◌≤◌, ◌&&◌, All, List, [], ◌∷◌, option_copied, IsUtf8, true, map, reverse, length, take, drop, ◌++◌, IfOk, IfSome, Some, OnOk, OnErr};
 ghost use Rattle.ref_parts.specs.Table.{entries_of, texts_of, with_value, ChangesBy, last_value, pair_count};
 ghost use Rattle.std.specs.Cmp.Lexicographic.{slice_cmp};
 ghost use Rattle.std.specs.Ordering.{nat_cmp};
+ghost use Rattle.std.specs.declared.cmp.Ordering.TheVariants.{Equal};
 ghost use Rattle.ref_parts.specs.inner.SortedEntries.{big_endian, pair_cmp, pair_of, key_cmp, key_of, word_at, text_between, slot_after, place_of, slot_with_value, slot_with_word, IsWithin, same_slots, zeros, words_of};
 
 use std::alloc::{AllocError, Global};
@@ -61,6 +62,11 @@ struct Bucket {
 
 // A place that no entry has.
 const NOWHERE: u32 = u32::MAX;
+
+// How many entries room is taken for at once, and how many bytes of their texts.
+const MOST_ENTRIES: usize = 32768;
+
+const MOST_BYTES: usize = 1 << 21;
 
 impl<V> Model for SortedTable<V> {
     ghost use Rattle.std.specs.Prelude.{List, ℕ};
@@ -134,6 +140,17 @@ impl<V: Drop> TableEntries<V> {
         move_after(before, slots.as_mut_slice());
         self.slots.append(&mut slots)?;
         Ok(())
+    }
+
+    /// Takes room for more entries: so many times as many as these, with texts as long, but not more than 32,768 entries with
+    /// texts of two mebibytes. The entries stay as they were, whether there is memory or not.
+    pub fn reserve_times(&mut self, times: usize) -> Result<(), AllocError>
+        ensures value { self.new ≡ self.old }
+    {
+        let more = self.slots.len().saturating_mul(times).min(MOST_ENTRIES);
+        self.slots.reserve(more)?;
+        let more = self.texts.len().saturating_mul(times).min(MOST_BYTES);
+        self.texts.reserve(more)
     }
 
     /// Changes the value of each entry in turn, from the first on. Texts stay as they are. Takes no memory but what `change` takes.
@@ -245,9 +262,8 @@ impl<V> SortedTable<V> {
         let place = self.place_in(bucket, word);
         if place < self.kept.len() {
             let slot = &self.kept[place];
-            match order(&self.texts, slot.word, slot, word, first, second) {
-                Ordering::Equal => return Some(&slot.value),
-                _ => {}
+            if is_entry(&self.texts, slot, word, first, second) {
+                return Some(&slot.value);
             }
         }
         self.search(bucket, first, second)
@@ -282,10 +298,10 @@ impl<V> SortedTable<V> {
         }
         let word = word_at(first.as_bytes(), self.shared);
         let slot = &self.kept[place];
-        match order(&self.texts, slot.word, slot, word, first, second) {
-            Ordering::Equal => Some(&slot.value),
-            _ => None,
+        if is_entry(&self.texts, slot, word, first, second) {
+            return Some(&slot.value);
         }
+        None
     }
 
     // The bucket of a number.
@@ -388,11 +404,27 @@ fn last_word(text: &[u8]) -> u64 {
     if let Some((_, eight)) = text.split_last_chunk::<8>() {
         return u64::from_be_bytes(*eight);
     }
-    let mut number = 0;
-    for byte in text {
-        number = number << 8 | *byte as u64;
+    short_word(text)
+}
+
+// A number of a text that has less than eight bytes: by them all where it has more than three, and else by the first, the middle
+// and the last.
+#[inline(always)]
+fn short_word(text: &[u8]) -> u64 {
+    if let (Some((front, _)), Some((_, back))) = (
+        text.split_first_chunk::<4>(),
+        text.split_last_chunk::<4>(),
+    ) {
+        return (u32::from_be_bytes(*front) as u64) << 32 | u32::from_be_bytes(*back) as u64;
     }
-    number
+    match text {
+        [] => 0,
+        [first] => *first as u64,
+        [first, .., last] => {
+            let middle = text[text.len() / 2];
+            (*first as u64) << 16 | (middle as u64) << 8 | *last as u64
+        }
+    }
 }
 
 // Moves the offsets of slots, whose texts are after so many more bytes.
@@ -457,7 +489,7 @@ fn shared_len<V>(texts: &[u8], slots: &[Slot<V>]) -> usize {
 
 // The beginning of a text that another one has too.
 fn shared_part<'t>(text: &'t [u8], other: &[u8]) -> &'t [u8] {
-    if other.starts_with(text) {
+    if begins_with(other, text) {
         return text;
     }
     let len = text
@@ -466,6 +498,37 @@ fn shared_part<'t>(text: &'t [u8], other: &[u8]) -> &'t [u8] {
         .take_while(|(byte, also)| byte == also)
         .count();
     text.get(..len).unwrap_or(text)
+}
+
+// Whether a text begins with another one: eight bytes after eight, the last of which may be compared twice.
+#[inline(always)]
+fn begins_with(text: &[u8], front: &[u8]) -> bool {
+    let len = front.len();
+    if text.len() < len {
+        return false;
+    }
+    if len < 8 {
+        return text.starts_with(front);
+    }
+    let mut at = 0;
+    while len - at > 8 {
+        if eight_at(text, at) != eight_at(front, at) {
+            return false;
+        }
+        at += 8;
+    }
+    eight_at(text, len - 8) == eight_at(front, len - 8)
+}
+
+// The eight bytes of a text from a place on as a number.
+#[inline(always)]
+fn eight_at(text: &[u8], at: usize) -> u64
+    requires { at + 8 ≤ length text.now }
+{
+    match text[at..].split_first_chunk::<8>() {
+        Some((eight, _)) => u64::from_ne_bytes(*eight),
+        None => 0,
+    }
 }
 
 // The eight bytes of a text from a place on as a number, the first one highest, with 0 for each that it hasn't. Where fewer are
@@ -570,6 +633,19 @@ fn order<V>(
         return Ordering::Greater;
     }
     texts_of_equal_words(texts, first, second, slot)
+}
+
+// Whether an entry is the one of two texts with the word of the first. In place, since most look-ups ask for one entry alone.
+#[inline(always)]
+fn is_entry<V>(texts: &Vec<u8>, slot: &Slot<V>, word: u64, first: &str, second: &str) -> bool
+    requires { IsWithin texts.now.items slot.now }
+    ensures { result ≡ true
+        → key_cmp (key_of texts.now.items slot.now) (word, (first.now, second.now)) ≡ Equal }
+{
+    let buffer = texts.as_slice();
+    let other_first = text_within(buffer, slot.first, slot.second);
+    let other_second = text_within(buffer, slot.second, slot.end);
+    slot.word == word && first == other_first && second == other_second
 }
 
 // The same for two entries, whose texts stay out of what sorts. Any two are compared, wherever their offsets are.

@@ -4,14 +4,14 @@ use Rattle.ref_parts.proofs.ProbeLaws.{found_at}
 use Rattle.ref_parts.specs.inner.SortedEntries.{IsWithin, word_at}
 use Rattle.ref_parts.proofs.table.SortedTable.find.Goals as goal
 
-pub order-requires-clause-within : goal.order-requires-clause-within
-order-requires-clause-within g c =
+pub is_entry-requires : goal.is_entry-requires
+is_entry-requires g c =
     subst (IsWithin c.self.inside.texts.items) (sym c.index-slot.ensures) (c.self.invariant.0.within c.place_in-place.result c.index-slot.result.now (omega arith))
 
-pub returns-in-Equal : goal.returns-in-Equal
-returns-in-Equal g c =
+pub returns-then-is_entry : goal.returns-then-is_entry
+returns-then-is_entry g c =
     let kept = c.self.inside.kept.items in
     let first = c.args.first.now in
     let second = c.args.second.now in
     let word = c.word_at-word.ensures ∙ ap (word_at c.self.inside.shared) c.as_bytes.ensures.value in
-    record { value = sym (ap (last_value first second) (sym c.self.view_is) ∙ found_at c.self.inside.texts.items c.self.inside.shared c.self.inside.entered.value.items kept c.self.invariant.0 first second _ word c.place_in-place.result c.index-slot.result.now (omega arith) c.index-slot.ensures (sym c.in-Equal.ensures)) }
+    record { value = sym (ap (last_value first second) (sym c.self.view_is) ∙ found_at c.self.inside.texts.items c.self.inside.shared c.self.inside.entered.value.items kept c.self.invariant.0 first second _ word c.place_in-place.result c.index-slot.result.now (omega arith) c.index-slot.ensures (c.is_entry.ensures c.if-is_entry.true)) }
