@@ -84,6 +84,22 @@ impl<'a> Found<'a> {
         }
     }
 
+    /// Takes room for so many times as much as was found, but not more than for 32,768 of each list.
+    pub fn reserve_times(&mut self, times: usize) -> Result<(), AllocError>
+        ensures held { (layer : Layer) (held : FoundLists)
+            → Holds layer self.old held → OnOk result (Holds layer self.new held) }
+    {
+        self.entries.reserve(more_of(self.entries.len(), times))?;
+        self.wants.reserve(more_of(self.wants.len(), times))?;
+        self.identified
+            .reserve(more_of(self.identified.len(), times))?;
+        self.resources.reserve_times(times)?;
+        self.names.reserve_times(times)?;
+        self.identifiers.reserve_times(times)?;
+        self.references.reserve_times(times)?;
+        Ok(())
+    }
+
     /// Adds the entry of a place, and returns its number. Copies nothing.
     pub fn add_entry(&mut self, entry: Entry<'a>) -> Result<usize, AllocError>
         ensures added { (layer : Layer) (held : FoundLists)
@@ -185,6 +201,11 @@ impl<'a> Found<'a> {
     {
         push_resolved(&mut self.references, base, text, uri)
     }
+}
+
+// So many times as many, up to 32,768.
+fn more_of(len: usize, times: usize) -> usize {
+    len.saturating_mul(times).min(32768)
 }
 
 // Adds what a text means against a base, whose entry isn't known yet.

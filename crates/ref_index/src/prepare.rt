@@ -19,14 +19,19 @@ use ref_error::{Error, Reason, Retrieve, RetrieveError};
 use ref_uri::UriFault;
 use std::alloc::Global;
 
-// Documents walked one after another.
+// Documents walked one after another. After the first there is room for as many like it as there are documents.
 fn walk_all<'a>(alloc: Global, documents: Vec<Document<'a>>) -> Result<Walked<'a>, UriFault>
     ensures value { IfOk result (λ walked. walked ≡ map document_of documents.entry.items) }
     ensures fault { IfErr result (IsFirstFault (faults (map document_of documents.entry.items))) }
 {
+    let mut times = documents.len();
     let mut walked = Walked::new(alloc);
     for document in documents {
         walked = walked.append(alloc, document)?;
+        if times > 1 {
+            walked = walked.with_room(times)?;
+            times = 0;
+        }
     }
     Ok(walked)
 }

@@ -105,6 +105,20 @@ impl<'a> Walked<'a> {
         }
     }
 
+    /// These documents, with room for so many times as many that are like them, so that lists needn't grow; of each list at most for
+    /// 32,768 more.
+    pub(crate) fn with_room(self, times: usize) -> Result<Walked<'a>, AllocError>
+        ensures value { IfOk result (λ walked. walked ≡ self.entry) }
+    {
+        let Walked {
+            mut documents,
+            mut found,
+        } = self;
+        documents.reserve(documents.len().saturating_mul(times).min(32768))?;
+        found.reserve_times(times)?;
+        Ok(Walked { documents, found })
+    }
+
     /// These documents and one after them, which is walked. It is moved, and its value never copied.
     ///
     /// Refuses for the first fault of all these documents, which is then one of the last's; and where memory is refused.

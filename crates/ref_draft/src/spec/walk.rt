@@ -96,6 +96,7 @@ fn push_elements<'a>(
         (Adds draft (elements_from keyword.now 0 (items_view items.now))
         children.old.items children.new.items) }
 {
+    children.reserve(items.len())?;
     for (index, item) in items.iter().enumerate() {
         push(children, draft, keyword, Some(index.into()), item)?;
     }
@@ -116,7 +117,9 @@ fn push_members<'a>(
     ensures found { AreFoundIn (members_view members.now.entries)
         (members_view members.now.entries) }
 {
-    for (key, member) in members {
+    let entries = members.iter();
+    children.reserve(members.len())?;
+    for (key, member) in entries {
         push(children, draft, keyword, Some(key.as_str().into()), member)?;
     }
     Ok(())
