@@ -1,10 +1,11 @@
 //! The documents that references lead into, layer by layer.
 ghost use Rattle.std.specs.Prelude.{◌≡◌, ◌∷◌, map, IfOk, IfSome, MatchOption, IsSome, is_some, Some, None, Ok};
 ghost use Rattle.ref_uri.specs.Targets.{uri_against};
-ghost use Rattle.ref_definitions.specs.Resources.{meant_place};
+ghost use Rattle.ref_definitions.specs.Resources.{last_under, meant_place, resources};
 ghost use Rattle.ref_definitions.specs.Anchors.{named_entry};
 ghost use Rattle.ref_definitions.specs.Fault.{as_invalid_uri};
 ghost use Rattle.ref_error.specs.Errors.{Gives};
+ghost use Rattle.ref_index.specs.Entries.{IsFoundAt};
 ghost use Rattle.ref_index.specs.Spots.{spot_of};
 ghost use Rattle.ref_resolver.specs.inner.Located.{IsMeant, IsMeantAt, IsNamed, IsNamedAt};
 ghost use Rattle.ref_resolver.specs.Layered.{world_in, IsHeld};
@@ -15,7 +16,7 @@ use crate::located::{
     place_of, resolved_above, resource_above, resource_in, with_layer,
 };
 use ref_error::Error;
-use ref_index::{Index, shared};
+use ref_index::{Entry, Index, shared};
 use ref_uri::uri::resolve_against;
 use ref_uri::{Uri, UriRef};
 use std::alloc::{AllocError, Global};
@@ -146,58 +147,69 @@ impl<'r> Layers<'r> {
         }
     }
 
-    /// The URI that a text means against a base, as `resolve_uri` gives it, and the place that it means, where the
-    /// index of the own documents finds that under the text, or has it beside the URI. One or two look-ups for the own
-    /// documents, and one for each parent.
+    /// The URI that a text means against a base, where the index of the own documents has it, and the place that it means there,
+    /// where there is one. One or two look-ups; takes no memory.
     #[inline(always)]
-    pub(crate) fn resolve_place(
+    pub(crate) fn known(&self, base: &Uri, uri: &str) -> Option<(&'r Rc<Uri>, Option<Located<'r>>)>
+        ensures uri { IfSome result (λ t. uri_against base.now uri.now ≡ Ok t.0.now.value) }
+        ensures place { IfSome result
+            (λ t. IfSome t.1 (IsMeant (meant_place (world_in self.now) t.0.now.value))) }
+    {
+        if seems_absolute(uri) {
+            if let Some(entry) = self.identified(base, uri) {
+                return Some((&entry.base, place_of(self.own, Some(entry))));
+            }
+        }
+        let found = self.own.resolved(base.as_str(), uri)?;
+        Some((found.uri, place_of(self.own, found.entry)))
+    }
+
+    // The place that a text identifies in the own documents, in normal form: then it means itself, and needs no look-up of what
+    // was resolved.
+    #[inline(never)]
+    fn identified(&self, base: &Uri, uri: &str) -> Option<&'r Entry<'r>>
+        ensures uri { IfSome result (λ e. uri_against base.now uri.now ≡ Ok e.now.base.value) }
+        ensures place { IfSome result
+            (λ e. IsFoundAt self.now.own.now e.now
+            (last_under e.now.base.value (resources self.now.own.now))) }
+    {
+        if !base.has_scheme() {
+            return None;
+        }
+        self.own.identified(uri)
+    }
+
+    /// The URI that a text means against a base (RFC 3986, 5.2), in normal form, where it wasn't resolved before in the own
+    /// documents. A look-up for each parent, up to the first that has it; takes memory where none has. Refuses as
+    /// `resolve_uri` does.
+    pub(crate) fn resolve_above(
         &self,
         alloc: Global,
         base: &Uri,
         uri: &str,
-    ) -> Result<(Rc<Uri>, Option<Located<'r>>), Error>
-        ensures gives { Gives (λ t. t.0.value) (as_invalid_uri (uri_against base.now uri.now))
-            result }
-        ensures place { IfOk result
-            (λ t. IfSome t.1 (IsMeant (meant_place (world_in self.now) t.0.value))) }
+    ) -> Result<Rc<Uri>, Error>
+        ensures gives { Gives (λ u. u.value) (as_invalid_uri (uri_against base.now uri.now)) result }
     {
-        if seems_absolute(uri) {
-            if let Some(found) = self.identified(base, uri)? {
-                return Ok(found);
-            }
+        match resolved_above(self.parents, base.as_str(), uri) {
+            Some(uri) => Ok(uri.clone()?),
+            None => anew(alloc, base.borrow(), uri),
         }
-        if let Some(found) = self.own.resolved(base.as_str(), uri) {
-            let place = place_of(self.own, found.entry);
-            return Ok((found.uri.clone()?, place));
-        }
-        if let Some(uri) = resolved_above(self.parents, base.as_str(), uri) {
-            return Ok((uri.clone()?, None));
-        }
-        Ok((anew(alloc, base.borrow(), uri)?, None))
     }
 
-    // What a text means that identifies a place of the own documents, in normal form: then it means itself, and needs no
-    // look-up of what was resolved.
-    #[inline(never)]
-    fn identified(
+    /// The URI that a text means against a base (RFC 3986, 5.2), in normal form, whatever was resolved before. Looked for as
+    /// `known` does, and then in the parents. Refuses as `resolve_uri` does.
+    pub(crate) fn resolve_within(
         &self,
+        alloc: Global,
         base: &Uri,
         uri: &str,
-    ) -> Result<Option<(Rc<Uri>, Option<Located<'r>>)>, AllocError>
-        ensures uri { IfOk result
-            (λ found. IfSome found (λ t. uri_against base.now uri.now ≡ Ok t.0.value)) }
-        ensures place { IfOk result
-            (λ found. IfSome found
-            (λ t. IfSome t.1 (IsMeant (meant_place (world_in self.now) t.0.value)))) }
+    ) -> Result<Rc<Uri>, Error>
+        ensures gives { Gives (λ u. u.value) (as_invalid_uri (uri_against base.now uri.now)) result }
     {
-        if !base.has_scheme() {
-            return Ok(None);
+        match self.known(base, uri) {
+            Some((uri, _)) => Ok(uri.clone()?),
+            None => self.resolve_above(alloc, base, uri),
         }
-        let Some(entry) = self.own.identified(uri) else {
-            return Ok(None);
-        };
-        let place = place_of(self.own, Some(entry));
-        Ok(Some((entry.base.clone()?, place)))
     }
 }
 

@@ -25,7 +25,7 @@ use crate::fragment::{identified_base, is_name, not_named, not_retrieved, outerm
 use crate::layers::Layers;
 use crate::located::{Located, Numbered, NumberedName};
 use crate::pointed::{cut_at_slash, index_of};
-use crate::resolver::{Resolved, Resolver, Target};
+use crate::resolver::{Resolved, Resolver};
 use percent_encoding::{DecodeError, percent_decode};
 use ref_error::Error;
 use ref_parts::escape::unescape_segment;
@@ -220,7 +220,7 @@ impl<'r> Resolver<'r> {
             ≡ Some (location_view f.1)) }
         ensures world { IfOk result (λ f. world_found f.0 ≡ world_of self.now) }
     {
-        let Target { uri, fragment, .. } = self.target(alloc, reference)?;
+        let (uri, fragment) = self.target(alloc, reference)?;
         if is_name(fragment) {
             return self.located_name(alloc, uri, fragment);
         }

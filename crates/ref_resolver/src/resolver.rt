@@ -1,9 +1,10 @@
 //! Where references lead from a base URI.
-ghost use Rattle.std.specs.Prelude.{◌≡◌, ℕ, List, Some, [], ◌++◌, codes, if◌then◌else◌, IfOk, IfSome, MatchOption, Ok, Err, None};
+ghost use Rattle.std.specs.Prelude.{◌≡◌, ◌==◌, ℕ, List, Some, [], ◌++◌, codes, slice_index, if◌then◌else◌, IfOk, IfSome, MatchOption, Ok, Err, None};
 ghost use Rattle.std.specs.Fmt.{WritesOnOk};
 ghost use Rattle.std.specs.List.{join_by};
 ghost use Rattle.serde_json.specs.View.{view};
-ghost use Rattle.ref_uri.specs.Targets.{uri_against, target, uri_part, fragment_part};
+ghost use Rattle.ref_uri.specs.Bytes.{hash};
+ghost use Rattle.ref_uri.specs.Targets.{uri_against, target, fragment_part};
 ghost use Rattle.ref_definitions.specs.Fault.{as_invalid_uri};
 ghost use Rattle.ref_definitions.specs.Resources.{meant_place};
 ghost use Rattle.ref_resolver.specs.Layered.{world_in};
@@ -16,6 +17,7 @@ use crate::pointed::{Along, Walk, follow_pointer};
 use ref_draft::{Draft, Reached, ResourceRef};
 use ref_error::Error;
 use ref_parts::list::List;
+use ref_uri::parts::parts;
 use ref_uri::{Uri, UriRef};
 use serde_json::Value;
 use std::alloc::{AllocError, Global};
@@ -34,34 +36,16 @@ pub struct Resolver<'r> {
     ghost known: { KnowsPlace layers base place } by { knows_once layers base place },
 }
 
-// What a reference points into: the URI, the place that it means, where that is known without a look-up, and the fragment;
-// and whether the URI is known to be the base without a comparison.
-#[derive(Drop)]
-pub(crate) struct Target<'r, 't> {
-    pub uri: Rc<Uri>,
-    pub place: Option<Located<'r>>,
-    pub fragment: &'t str,
-    pub is_base: bool,
-}
-
-// What is before the last `#` of a reference, which is the whole where there is none, and its fragment: what follows a `#` in
-// front, or else the last `#`. One search, by words.
+// The place, where it is known and there is no fragment.
 #[inline(always)]
-fn cut_at_hash(reference: &str) -> (&str, &str)
-    ensures uri { result.0.now ≡ uri_part reference.now }
-    ensures fragment { result.1.now ≡ fragment_part reference.now }
+fn whole_of<'r>(known: Option<Located<'r>>, fragment: &str) -> Option<Located<'r>>
+    ensures { IfSome result (λ place. (known.entry ≡ Some place) × (fragment.now ≡ [])) }
 {
-    let Some((uri, last)) = reference.rsplit_once('#') else {
-        return (reference, "");
-    };
-    match reference.strip_prefix('#') {
-        Some(fragment) => (uri, fragment),
-        None => (uri, last),
-    }
+    if fragment.is_empty() { known } else { None }
 }
 
 impl<'r> Resolver<'r> {
-    ghost use Rattle.std.specs.Prelude.{true};
+    ghost use Rattle.std.specs.Prelude.{false, true};
     ghost use Rattle.ref_definitions.specs.Anchors.{Named, anchor, not_named};
     ghost use Rattle.ref_draft.specs.Anchors.{Dynamic};
     ghost use Rattle.ref_draft.specs.Views.{resource_ref};
@@ -150,38 +134,23 @@ impl<'r> Resolver<'r> {
         self.layers.resolve_uri(alloc, base, uri)
     }
 
-    // What a reference points into.
-    #[inline(always)]
+    // What a reference points into, and its fragment.
     pub(crate) fn target<'t>(
         &self,
         alloc: Global,
         reference: &'t str,
-    ) -> Result<Target<'r, 't>, Error>
-        ensures gives { Gives (λ t. t.uri.value)
+    ) -> Result<(Rc<Uri>, &'t str), Error>
+        ensures gives { Gives (λ t. t.0.value)
             (as_invalid_uri (target (resolver_of self.now).base reference.now))
             result }
-        ensures place { IfOk result
-            (λ t. IfSome t.place (IsMeant (meant_place (world_of self.now) t.uri.value))) }
-        ensures fragment { IfOk result (λ t. t.fragment.now ≡ fragment_part reference.now) }
-        ensures base { IfOk result
-            (λ t. t.is_base ≡ true → t.uri.value ≡ (resolver_of self.now).base) }
+        ensures fragment { IfOk result (λ t. t.1.now ≡ fragment_part reference.now) }
     {
         if let Some(fragment) = reference.strip_prefix('#') {
-            return Ok(Target {
-                uri: self.base.clone()?,
-                place: self.place,
-                fragment,
-                is_base: true,
-            });
+            return Ok((self.base.clone()?, fragment));
         }
-        let (uri, fragment) = cut_at_hash(reference);
-        let (uri, place) = self.layers.resolve_place(alloc, &self.base, uri)?;
-        Ok(Target {
-            uri,
-            place,
-            fragment,
-            is_base: false,
-        })
+        let (text, fragment) = parts(reference);
+        let uri = self.layers.resolve_within(alloc, &self.base, text)?;
+        Ok((uri, fragment))
     }
 
     // This resolver with another base, and the place that it means, where that is known.
@@ -271,32 +240,143 @@ impl<'r> Resolver<'r> {
     /// for each URI. Of a fragment alone, the place of the base isn't looked for where it is known: it is at what a look-up of a
     /// URI without a fragment finds, and in a resolver of a registry. No value is copied. By the code, `#` takes no memory
     /// where the base means a place; no clause says so, but [`Resolver::at_base`] takes none by its signature.
+    #[inline(always)]
     pub fn lookup(&self, alloc: Global, reference: &str) -> Result<Resolved<'r>, Error>
         ensures gives { Gives found_of
             (lookup (world_of self.now) (resolver_of self.now) reference.now) result }
         ensures world { IfOk result (λ found. world_found found ≡ world_of self.now) }
     {
-        let Target {
-            uri,
-            place,
-            fragment,
-            is_base,
-        } = self.target(alloc, reference)?;
+        let Some(fragment) = reference.strip_prefix('#') else {
+            return self.elsewhere(alloc, reference);
+        };
         if is_name(fragment) {
-            return self.at_name(alloc, uri, fragment, is_base);
+            return self.at_name(alloc, &self.base, fragment, true);
         }
-        let Some(place) = self.layers.resource_or(place, uri.as_str()) else {
-            return Err(not_retrieved(alloc, &uri));
+        if let Some(place) = whole_of(self.place, fragment) {
+            return self.here(alloc, place);
+        }
+        self.at_place(alloc, &self.base, self.place, fragment, true)
+    }
+
+    // Where `#` leads, where the place of the base is known.
+    #[inline(never)]
+    fn here(&self, alloc: Global, place: Located<'r>) -> Result<Resolved<'r>, Error>
+        requires known { IsMeant (meant_place (world_of self.now) (resolver_of self.now).base) place }
+        ensures gives { (reference : List ℕ)
+            → target (resolver_of self.now).base reference ≡ Ok (resolver_of self.now).base
+            → fragment_part reference ≡ []
+            → Gives found_of (lookup (world_of self.now) (resolver_of self.now) reference) result }
+        ensures world { IfOk result (λ found. world_found found ≡ world_of self.now) }
+    {
+        let scope = self.scope_at(alloc, self.base.as_str(), true)?;
+        Ok(Resolved {
+            contents: place.value,
+            resolver: Resolver {
+                layers: self.layers,
+                base: self.base.clone()?,
+                place: Some(place),
+                scope,
+            },
+            draft: place.entry.draft,
+        })
+    }
+
+    // Where a reference leads that doesn't begin with `#`. At once, where what it means was resolved before, means a place of the
+    // own documents, and has no fragment.
+    #[inline(never)]
+    fn elsewhere(&self, alloc: Global, reference: &str) -> Result<Resolved<'r>, Error>
+        requires front { (slice_index reference.now 0 == hash) ≡ false }
+        ensures gives { Gives found_of
+            (lookup (world_of self.now) (resolver_of self.now) reference.now) result }
+        ensures world { IfOk result (λ found. world_found found ≡ world_of self.now) }
+    {
+        let (text, fragment) = parts(reference);
+        let Some((uri, known)) = self.layers.known(&self.base, text) else {
+            return self.anew(alloc, text, fragment);
+        };
+        let Some(place) = whole_of(known, fragment) else {
+            return self.within(alloc, uri, known, fragment);
+        };
+        let scope = self.scope_at(alloc, uri.as_str(), false)?;
+        Ok(Resolved {
+            contents: place.value,
+            resolver: Resolver {
+                layers: self.layers,
+                base: uri.clone()?,
+                place: Some(place),
+                scope,
+            },
+            draft: place.entry.draft,
+        })
+    }
+
+    // Where a fragment leads under a URI that a text means which wasn't resolved before in the own documents.
+    #[inline(never)]
+    fn anew(&self, alloc: Global, text: &str, fragment: &str) -> Result<Resolved<'r>, Error>
+        ensures gives { (reference : List ℕ)
+            → target (resolver_of self.now).base reference
+            ≡ uri_against (resolver_of self.now).base text.now
+            → fragment_part reference ≡ fragment.now
+            → Gives found_of (lookup (world_of self.now) (resolver_of self.now) reference) result }
+        ensures world { IfOk result (λ found. world_found found ≡ world_of self.now) }
+    {
+        let uri = self.layers.resolve_above(alloc, &self.base, text)?;
+        self.within(alloc, &uri, None, fragment)
+    }
+
+    // Where a fragment leads under a URI, whose place may be known.
+    #[inline(never)]
+    fn within(
+        &self,
+        alloc: Global,
+        uri: &Rc<Uri>,
+        known: Option<Located<'r>>,
+        fragment: &str,
+    ) -> Result<Resolved<'r>, Error>
+        requires known { IfSome known (IsMeant (meant_place (world_of self.now) uri.now.value)) }
+        ensures gives { (reference : List ℕ)
+            → target (resolver_of self.now).base reference ≡ Ok uri.now.value
+            → fragment_part reference ≡ fragment.now
+            → Gives found_of (lookup (world_of self.now) (resolver_of self.now) reference) result }
+        ensures world { IfOk result (λ found. world_found found ≡ world_of self.now) }
+    {
+        if is_name(fragment) {
+            return self.at_name(alloc, uri, fragment, false);
+        }
+        self.at_place(alloc, uri, known, fragment, false)
+    }
+
+    // Where a fragment that is no name leads under a URI, whose place may be known, and which may be known to be the base.
+    #[inline(never)]
+    fn at_place(
+        &self,
+        alloc: Global,
+        uri: &Rc<Uri>,
+        known: Option<Located<'r>>,
+        fragment: &str,
+        is_base: bool,
+    ) -> Result<Resolved<'r>, Error>
+        requires known { IfSome known (IsMeant (meant_place (world_of self.now) uri.now.value)) }
+        requires name { is_name fragment.now ≡ false }
+        requires base { is_base ≡ true → uri.now.value ≡ (resolver_of self.now).base }
+        ensures gives { (reference : List ℕ)
+            → target (resolver_of self.now).base reference ≡ Ok uri.now.value
+            → fragment_part reference ≡ fragment.now
+            → Gives found_of (lookup (world_of self.now) (resolver_of self.now) reference) result }
+        ensures world { IfOk result (λ found. world_found found ≡ world_of self.now) }
+    {
+        let Some(place) = self.layers.resource_or(known, uri.as_str()) else {
+            return Err(not_retrieved(alloc, uri));
         };
         let scope = self.scope_at(alloc, uri.as_str(), is_base)?;
         if let Some(text) = fragment.strip_prefix('/') {
-            return self.at_pointer(alloc, uri, scope, place, fragment, text);
+            return self.at_pointer(alloc, uri.clone()?, scope, place, fragment, text);
         }
         Ok(Resolved {
             contents: place.value,
             resolver: Resolver {
                 layers: self.layers,
-                base: uri,
+                base: uri.clone()?,
                 place: Some(place),
                 scope,
             },
@@ -364,29 +444,29 @@ impl<'r> Resolver<'r> {
     fn at_name(
         &self,
         alloc: Global,
-        uri: Rc<Uri>,
+        uri: &Rc<Uri>,
         name: &str,
         is_base: bool,
     ) -> Result<Resolved<'r>, Error>
-        requires base { is_base ≡ true → uri.value ≡ (resolver_of self.now).base }
+        requires base { is_base ≡ true → uri.now.value ≡ (resolver_of self.now).base }
         ensures gives { (reference : List ℕ)
-            → target (resolver_of self.now).base reference ≡ Ok uri.value
+            → target (resolver_of self.now).base reference ≡ Ok uri.now.value
             → fragment_part reference ≡ name.now → is_name name.now ≡ true
             → Gives found_of (lookup (world_of self.now) (resolver_of self.now) reference) result }
         ensures world { IfOk result (λ found. world_found found ≡ world_of self.now) }
     {
         let Some(found) = meaning(&self.layers, uri.as_str(), name) else {
-            return Err(self.no_name(alloc, &uri, name));
+            return Err(self.no_name(alloc, uri, name));
         };
         if found.named.is_dynamic {
-            return self.at_dynamic(alloc, uri, name, found.place);
+            return self.at_dynamic(alloc, uri.clone()?, name, found.place);
         }
         let scope = self.scope_at(alloc, uri.as_str(), is_base)?;
         Ok(Resolved {
             contents: found.place.value,
             resolver: Resolver {
                 layers: self.layers,
-                base: uri,
+                base: uri.clone()?,
                 place: None,
                 scope,
             },

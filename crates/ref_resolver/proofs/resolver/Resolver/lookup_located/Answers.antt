@@ -23,14 +23,14 @@ returns-in_err-uri-clause-gives c =
 
 pub returns-in_default-clause-gives : goal.returns-in_default-clause-gives
 returns-in_default-clause-gives c =
-    absent_says (world_of c.args.self.now) (resolver_of c.args.self.now) c.args.reference.now c.in_ok-uri.field-0.uri.value c.not_retrieved.result c.in_ok-uri.ensures.gives (search rules) (rw c.deref-in_default.ensures at c.not_retrieved.ensures.fault)
+    absent_says (world_of c.args.self.now) (resolver_of c.args.self.now) c.args.reference.now c.in_ok-uri.uri.value c.not_retrieved.result c.in_ok-uri.ensures.gives (search rules) (rw c.deref-in_default.ensures at c.not_retrieved.ensures.fault)
 
 pub returns-in-Some-strip_prefix-clause-gives : goal.returns-in-Some-strip_prefix-clause-gives
 returns-in-Some-strip_prefix-clause-gives c =
     let w = world_of c.args.self.now in
     let r = resolver_of c.args.self.now in
-    let uri : List ℕ = c.in_ok-uri.field-0.uri.value in
-    let fragment = c.in_ok-uri.field-0.fragment.now in
+    let uri : List ℕ = c.in_ok-uri.uri.value in
+    let fragment = c.in_ok-uri.fragment.now in
     let (p, is, at) = c.in-Some.ensures.value in
     let text : c.as_str.result.now ≡ uri = search rules in
     let slash = rw c.in-Some-strip_prefix.is at (strip_prefix_char 47 fragment c.strip_prefix.result c.strip_prefix.ensures.cases (lit< tt)) in
@@ -46,8 +46,8 @@ pub returns-in-Some-strip_prefix-clause-spot : goal.returns-in-Some-strip_prefix
 returns-in-Some-strip_prefix-clause-spot c =
     let w = world_of c.args.self.now in
     let r = resolver_of c.args.self.now in
-    let uri : List ℕ = c.in_ok-uri.field-0.uri.value in
-    let fragment = c.in_ok-uri.field-0.fragment.now in
+    let uri : List ℕ = c.in_ok-uri.uri.value in
+    let fragment = c.in_ok-uri.fragment.now in
     let place = c.in-Some.place in
     let (p, is, at) = c.in-Some.ensures.value in
     let text : c.as_str.result.now ≡ uri = search rules in
@@ -64,8 +64,8 @@ returns-in-Some-strip_prefix-clause-spot c =
 pub returns-in_ok-located_at-in-None-clause-gives : goal.returns-in_ok-located_at-in-None-clause-gives
 returns-in_ok-located_at-in-None-clause-gives c =
     let w = world_of c.args.self.now in
-    let uri : List ℕ = c.in_ok-uri.field-0.uri.value in
-    let fragment = c.in_ok-uri.field-0.fragment.now in
+    let uri : List ℕ = c.in_ok-uri.uri.value in
+    let fragment = c.in_ok-uri.fragment.now in
     let (p, is, at) = c.in-Some.ensures.value in
     let text : c.as_str.result.now ≡ uri = search rules in
     let none = rw c.in-None.is at (strip_prefix_char 47 fragment c.strip_prefix.result c.strip_prefix.ensures.cases (lit< tt)) in
@@ -77,8 +77,8 @@ pub returns-in_ok-located_at-in-None-clause-spot : goal.returns-in_ok-located_at
 returns-in_ok-located_at-in-None-clause-spot c =
     let w = world_of c.args.self.now in
     let r = resolver_of c.args.self.now in
-    let uri : List ℕ = c.in_ok-uri.field-0.uri.value in
-    let fragment = c.in_ok-uri.field-0.fragment.now in
+    let uri : List ℕ = c.in_ok-uri.uri.value in
+    let fragment = c.in_ok-uri.fragment.now in
     let text : c.as_str.result.now ≡ uri = search rules in
     let none = rw c.in-None.is at (strip_prefix_char 47 fragment c.strip_prefix.result c.strip_prefix.ensures.cases (lit< tt)) in
     let name : is_name fragment ≡ false = sym c.is_name.ensures ∙ c.if-is_name.false in
@@ -87,12 +87,12 @@ returns-in_ok-located_at-in-None-clause-spot c =
 
 pub returns-then-is_name-clause-gives : goal.returns-then-is_name-clause-gives
 returns-then-is_name-clause-gives c =
-    let name : is_name c.in_ok-uri.field-0.fragment.now ≡ true = sym c.is_name.ensures ∙ c.if-is_name.true in
-    let means = uri_meant (target (resolver_of c.args.self.now).base c.args.reference.now) c.in_ok-uri.field-0.uri.value c.in_ok-uri.ensures.gives in
+    let name : is_name c.in_ok-uri.fragment.now ≡ true = sym c.is_name.ensures ∙ c.if-is_name.true in
+    let means = uri_meant (target (resolver_of c.args.self.now).base c.args.reference.now) c.in_ok-uri.uri.value c.in_ok-uri.ensures.gives in
     c.located_name.ensures.gives c.args.reference.now means (sym c.in_ok-uri.ensures.fragment) name
 
 pub returns-then-is_name-clause-spot : goal.returns-then-is_name-clause-spot
 returns-then-is_name-clause-spot c =
-    let name : is_name c.in_ok-uri.field-0.fragment.now ≡ true = sym c.is_name.ensures ∙ c.if-is_name.true in
-    let means = uri_meant (target (resolver_of c.args.self.now).base c.args.reference.now) c.in_ok-uri.field-0.uri.value c.in_ok-uri.ensures.gives in
+    let name : is_name c.in_ok-uri.fragment.now ≡ true = sym c.is_name.ensures ∙ c.if-is_name.true in
+    let means = uri_meant (target (resolver_of c.args.self.now).base c.args.reference.now) c.in_ok-uri.uri.value c.in_ok-uri.ensures.gives in
     c.located_name.ensures.spot c.args.reference.now means (sym c.in_ok-uri.ensures.fragment) name

@@ -9,7 +9,7 @@ returns-in_err-uri-clause-gives c =
     let base = c.args.self.now.base.value in
     let front : is_hash (slice_index text 0) ≡ false = not_in_front text (rw c.in_default.is at (strip_prefix_char 35 text c.strip_prefix.result c.strip_prefix.ensures.cases (lit< tt))) in
     let same = target-against base text front in
-    let fault = rw c.cut_at_hash.ensures.uri at c.in_err-uri.ensures.gives in
+    let fault = rw c.parts.ensures.uri at c.in_err-uri.ensures.gives in
     search rules
 
 pub returns-clause-gives : goal.returns-clause-gives
@@ -18,5 +18,5 @@ returns-clause-gives c =
     let base = c.args.self.now.base.value in
     let front : is_hash (slice_index text 0) ≡ false = not_in_front text (rw c.in_default.is at (strip_prefix_char 35 text c.strip_prefix.result c.strip_prefix.ensures.cases (lit< tt))) in
     let same = target-against base text front in
-    let there = rw c.cut_at_hash.ensures.uri at c.in_ok-uri.ensures.gives in
+    let there = rw c.parts.ensures.uri at c.in_ok-uri.ensures.gives in
     search rules
