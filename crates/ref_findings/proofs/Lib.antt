@@ -18,5 +18,6 @@ pub mod Surveys
 pub mod Dynamic
 pub mod Based
 pub mod Nulls
+pub mod Listed
 pub mod Descriptions
 pub mod Guessing

@@ -17,7 +17,7 @@ enumerate-push n (x ∷ xs) y =
 pub taken_more : {X Y : Type 0} (v : X → Y) (xs : List X) (i : ℕ) (d : X) → i < length xs → map v (take (i + 1) xs) ≡ map v (take i xs) ++ v (get_or xs i d) ∷ []
 taken_more v xs i d within = ap (map v) (take_more xs i d within) ∙ map-append v (take i xs) (get_or xs i d ∷ [])
 
-numbered_more : {X Y : Type 0} (v : X → Y) (xs : List X) (i : ℕ) (d : X) → i < length xs
+pub numbered_more : {X Y : Type 0} (v : X → Y) (xs : List X) (i : ℕ) (d : X) → i < length xs
     → enumerate_from 0 (map v (take (i + 1) xs)) ≡ enumerate_from 0 (map v (take i xs)) ++ (i, v (get_or xs i d)) ∷ []
 numbered_more v xs i d within =
     let long : 0 + length (map v (take i xs)) ≡ i = omega (arith, length-map (take i xs) v, length-take-le i xs (omega (arith, within))) in

@@ -1,5 +1,8 @@
 -- What the program's findings say.
-use Rattle.std.specs.Prelude.{◌≡◌, map, option_map, ⊤}
+use Rattle.std.specs.Prelude.{◌≡◌, List, map, option_map, ⊤}
+use Rattle.std.specs.List.{AllZip}
+use Rattle.std.specs.declared.vec.Vec.{Vec}
+use Rattle.std.specs.declared.alloc.Global.{Global}
 use Rattle.serde_json.specs.View.{view}
 use Rattle.ref_paths.specs.Segment.{part_of}
 use Rattle.ref_uri.specs.Errors.{SaysRefusal}
@@ -58,3 +61,7 @@ IsFindingOf f g =
     × (option_map (λ k. k.now) f.keyword ≡ g.keyword)
     × (option_map (λ t. t.now) f.text ≡ g.text)
     × IsProblemOf f.problem g.problem
+
+-- a list of the program says these
+abbrev pub SaysFindings : Vec rust_finding.Finding Global → List Finding → Type 0
+SaysFindings list fs = AllZip IsFindingOf list.items fs

@@ -6,6 +6,7 @@ pub mod Findings
 pub mod Guessed
 pub mod Entries
 pub mod Gathered
+pub mod Unmet
 pub mod Held
 pub mod Rows
 pub mod inner

@@ -6,4 +6,5 @@ pub mod Queue
 pub mod Wanted
 pub mod Plain
 pub mod Adding
+pub mod Nulled
 pub mod Read

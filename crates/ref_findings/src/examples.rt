@@ -8,6 +8,8 @@ ghost use Rattle.ref_uri.specs.Targets.{parse_refusal};
 ghost use Rattle.ref_definitions.specs.Fault.{PointerToNowhere, NoSuchAnchor};
 ghost use Rattle.ref_definitions.specs.Rows.{yes, text, empty, one, two, pair};
 ghost use Rattle.ref_findings.specs.Findings.{findings, references, NotJson, NotChecked, NotAText, RecursiveElsewhere, NamesNothing, InvalidUri, MissingDocument, LeadsNowhere, Unchecked, UnknownDialect, DuplicateIdentifier, DuplicateAnchor, GuessedDraft, ListOfItems};
+ghost use Rattle.serde_json.specs.Data.{null};
+ghost use Rattle.ref_findings.specs.Unmet.{unmet, without_texts};
 ghost use Rattle.ref_findings.specs.Rows.{source, unread_source, finding_on, finding_without_text, finding_whole};
 
 /// What is wrong with references.
@@ -236,4 +238,56 @@ pub fn duplicates()
     ensures plain_and_dynamic { findings Draft202012
         (source "http://a/r" (two "$anchor" (text "n") "$dynamicAnchor" (text "n")) ∷ []) []
         ≡ [] }
+{}
+
+/// The texts for which a registry can't be prepared of sources.
+pub fn unmet_texts()
+    ensures missing { unmet Draft202012 (source "http://a/r" (one "$ref" (text "s#/x")) ∷ [])
+        ≡ (finding_on 0 [] "$ref" "s#/x" (MissingDocument (codes "http://a/s")) ∷ []) ∷ [] }
+    ensures there { unmet Draft202012
+        (source "http://a/r" (one "$ref" (text "s#/x")) ∷ source "http://a/s" empty ∷ [])
+        ≡ [] ∷ [] ∷ [] }
+    ensures by_its_identifier { unmet Draft202012
+        (source "http://a/r" (one "$ref" (text "http://b/x"))
+        ∷ source "http://a/s" (one "not" (one "$id" (text "http://b/x")))
+        ∷ [])
+        ≡ [] ∷ [] ∷ [] }
+    ensures no_uri { unmet Draft202012
+        (source "http://a/r" empty ∷ source "http://a/s" (one "$ref" (text "a b")) ∷ [])
+        ≡ []
+        ∷ (finding_on 1 [] "$ref" "a b" (InvalidUri (parse_refusal (codes "a b"))) ∷ [])
+        ∷ [] }
+    ensures below_a_faulty_identifier { unmet Draft202012
+        (source "http://a/r" (two "$id" (text "a b") "not" (one "$ref" (text "t"))) ∷ [])
+        ≡ (finding_on 0 [] "$id" "a b" (InvalidUri (parse_refusal (codes "a b")))
+        ∷ finding_on 0 (Key (codes "not") ∷ []) "$ref" "t"
+        (MissingDocument (codes "http://a/t"))
+        ∷ [])
+        ∷ [] }
+    ensures dialect { unmet Draft202012 (source "http://a/r" (one "$schema" (text "a b")) ∷ [])
+        ≡ (finding_on 0 [] "$schema" "a b" (InvalidUri (parse_refusal (codes "a b"))) ∷ []) ∷ [] }
+    ensures meta_schema_of_a_draft { unmet Draft202012
+        (source "http://a/r" (one "$ref" (text "http://json-schema.org/draft-07/schema#")) ∷ [])
+        ≡ (finding_on 0 [] "$ref" "http://json-schema.org/draft-07/schema#"
+        (MissingDocument (codes "http://json-schema.org/draft-07/schema"))
+        ∷ [])
+        ∷ [] }
+    ensures pointer_to_nowhere { unmet Draft202012
+        (source "http://a/r" (one "$ref" (text "#/x")) ∷ [])
+        ≡ [] ∷ [] }
+    ensures dynamic { unmet Draft202012 (source "http://a/r" (one "$dynamicRef" (text "s")) ∷ [])
+        ≡ [] ∷ [] }
+{}
+
+/// Trees with `null` in place of texts.
+pub fn trees_without_texts()
+    ensures one_text { without_texts
+        (finding_on 0 (Key (codes "not") ∷ []) "$ref" "s" NotAText ∷ [])
+        (two "$ref" (text "s") "not" (one "$ref" (text "s")))
+        ≡ two "$ref" (text "s") "not" (one "$ref" null) }
+    ensures in_a_list { without_texts
+        (finding_on 0 (Key (codes "allOf") ∷ Index 1 ∷ []) "$ref" "s" NotAText ∷ [])
+        (one "allOf" (pair (one "$ref" (text "s")) (one "$ref" (text "s"))))
+        ≡ one "allOf" (pair (one "$ref" (text "s")) (one "$ref" null)) }
+    ensures no_text { without_texts [] (one "$ref" (text "s")) ≡ one "$ref" (text "s") }
 {}

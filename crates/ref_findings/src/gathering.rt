@@ -1,7 +1,7 @@
 //! The documents that sources want and that are retrieved.
-ghost use Rattle.std.specs.Prelude.{◌≡◌, ◌+◌, ◌≤◌, ◌<◌, [], ◌∷◌, length, map, flat_map, option_map, IfOk, IfSome, IfNone, OnOk};
+ghost use Rattle.std.specs.Prelude.{◌≡◌, ◌+◌, ◌≤◌, ◌<◌, ℕ, List, [], ◌∷◌, length, map, flat_map, bytes_eq, option_map, IfOk, IfSome, IfNone, OnOk};
 ghost use Rattle.std.specs.Option.{option_to_list};
-ghost use Rattle.std.specs.List.{AllByRecursion};
+ghost use Rattle.std.specs.List.{AllByRecursion, list_any};
 ghost use Rattle.serde_json.specs.View.{view};
 ghost use Rattle.ref_definitions.specs.Resources.{own_uri};
 ghost use Rattle.ref_findings.specs.Sources.{uris_in};
@@ -33,9 +33,9 @@ pub struct Held {
     pub value: Value,
 }
 
-// What documents want, and which URIs are known: those that documents and their places have, and those that were refused.
+/// What documents want, and which URIs are known: those that documents and their places have, and those that were refused.
 #[derive(Drop)]
-struct Wants {
+pub(crate) struct Wants {
     wanted: Vec<Rc<Uri>>,
     // How many of them were gone through.
     next: usize,
@@ -43,6 +43,14 @@ struct Wants {
 }
 
 impl Wants {
+    /// Whether a URI is known. Takes no memory.
+    pub fn knows(&self, uri: &Uri) -> bool
+        ensures value { (uris : List (List ℕ)) → AreMet self.now uris
+            → result ≡ list_any (λ known. bytes_eq known uri.now) uris }
+    {
+        self.met.contains_key(uri)
+    }
+
     // Adds that a URI is known.
     fn meet(&mut self, uri: &Uri) -> Result<(), AllocError>
         ensures grows { OnOk result (Grows self.old self.new (uri.now ∷ []) []) }
@@ -274,6 +282,23 @@ fn add_surveys(
     Ok(())
 }
 
+/// What sources with their places have and want.
+pub(crate) fn wants_in(alloc: Global, surveys: &[Survey<'_, '_>]) -> Result<Wants, AllocError>
+    ensures met { IfOk result
+        (λ wants. AreMet wants (flat_map uris_seen (map seen_survey surveys.now))) }
+    ensures wanted { IfOk result
+        (λ wants. wanted_of wants ≡ flat_map wanted_seen (map seen_survey surveys.now)) }
+    ensures next { IfOk result (λ wants. wants.next ≡ 0) }
+{
+    let mut wants = Wants {
+        wanted: Vec::new(alloc),
+        next: 0,
+        met: HashMap::new(alloc),
+    };
+    add_surveys(alloc, &mut wants, surveys)?;
+    Ok(wants)
+}
+
 // What sources have and want.
 fn wants_of(alloc: Global, draft: Draft, sources: &[Source<'_>]) -> Result<Wants, AllocError>
     ensures met { IfOk result
@@ -283,13 +308,7 @@ fn wants_of(alloc: Global, draft: Draft, sources: &[Source<'_>]) -> Result<Wants
     ensures next { IfOk result (λ wants. wants.next ≡ 0) }
 {
     let surveys = surveys_of(alloc, draft, sources)?;
-    let mut wants = Wants {
-        wanted: Vec::new(alloc),
-        next: 0,
-        met: HashMap::new(alloc),
-    };
-    add_surveys(alloc, &mut wants, surveys.as_slice())?;
-    Ok(wants)
+    wants_in(alloc, surveys.as_slice())
 }
 
 /// The documents that sources want, and that those want in turn, as far as a retriever returns them: for each URI that

@@ -22,6 +22,7 @@ mod site;
 mod source;
 mod survey;
 mod texts;
+mod unready;
 mod walk;
 
 pub use finding::{Bearer, Finding, Level, Problem, Report};
@@ -29,3 +30,4 @@ pub use gathering::{Held, as_sources, gather};
 pub use list::{findings, mended, report};
 pub use mending::with_null_at;
 pub use source::Source;
+pub use unready::{unmet, without_texts};

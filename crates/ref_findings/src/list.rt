@@ -57,8 +57,8 @@ fn finding<'v>(
     })
 }
 
-// Adds what is wrong with a text of a place, where something is. It fails where finding that out did.
-fn add<'v>(
+/// Adds what is wrong with a text of a place, where something is. It fails where finding that out did.
+pub(crate) fn add<'v>(
     alloc: Global,
     list: &mut Vec<Finding<'v>>,
     site: &Site<'_, 'v>,

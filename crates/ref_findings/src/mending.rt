@@ -17,15 +17,15 @@ use ref_parts::path::JsonPointerSegment;
 use serde_json::{Map, Value};
 use std::alloc::{AllocError, Global};
 
-// A step of a path that owns its key.
+/// A step of a path that owns its key.
 #[derive(Drop)]
-enum Step {
+pub(crate) enum Step {
     Key(String),
     Index(usize),
 }
 
-// The step of a key.
-fn key_step(alloc: Global, key: &str) -> Result<Step, AllocError>
+/// The step of a key.
+pub(crate) fn key_step(alloc: Global, key: &str) -> Result<Step, AllocError>
     ensures { IfOk result (λ step. step_of step ≡ Key key.now) }
 {
     Ok(Step::Key(String::from_str(alloc, key)?))
@@ -41,8 +41,11 @@ fn step_of(alloc: Global, part: &JsonPointerSegment<'_>) -> Result<Step, AllocEr
     }
 }
 
-// The steps of a path.
-fn steps_of(alloc: Global, path: &[JsonPointerSegment<'_>]) -> Result<Vec<Step>, AllocError>
+/// The steps of a path.
+pub(crate) fn steps_of(
+    alloc: Global,
+    path: &[JsonPointerSegment<'_>],
+) -> Result<Vec<Step>, AllocError>
     ensures { IfOk result (λ steps. map step_of steps.items ≡ map part_of path.now) }
 {
     let mut steps = Vec::with_capacity(alloc, path.len())?;
@@ -65,8 +68,8 @@ fn path_of(alloc: Global, place: &Place<'_>, keyword: Keyword) -> Result<Vec<Ste
     Ok(steps)
 }
 
-// Adds a path after the others.
-fn push(paths: &mut Vec<Vec<Step>>, path: Vec<Step>) -> Result<(), AllocError>
+/// Adds a path after the others.
+pub(crate) fn push(paths: &mut Vec<Vec<Step>>, path: Vec<Step>) -> Result<(), AllocError>
     ensures { OnOk result (paths.new.items ≡ paths.old.items ++ path ∷ []) }
 {
     paths.push(path)?;
@@ -123,8 +126,8 @@ fn refused_paths(alloc: Global, places: &[Place<'_>]) -> Result<Vec<Vec<Step>>, 
     Ok(paths)
 }
 
-// The paths, lent.
-fn lent<'p>(alloc: Global, paths: &'p [Vec<Step>]) -> Result<Vec<&'p [Step]>, AllocError>
+/// The paths, lent.
+pub(crate) fn lent<'p>(alloc: Global, paths: &'p [Vec<Step>]) -> Result<Vec<&'p [Step]>, AllocError>
     ensures { IfOk result (λ list. map lent_path list.items ≡ map own_path paths.now) }
 {
     let mut list = Vec::with_capacity(alloc, paths.len())?;
@@ -231,9 +234,13 @@ fn is_any_empty(paths: &[&[Step]]) -> bool
     any
 }
 
-// A value with `null` at each of these paths.
+/// A value with `null` at each of these paths.
 #[cycle(with_nulls)]
-fn with_nulls(alloc: Global, paths: &[&[Step]], value: &Value) -> Result<Value, AllocError>
+pub(crate) fn with_nulls(
+    alloc: Global,
+    paths: &[&[Step]],
+    value: &Value,
+) -> Result<Value, AllocError>
     ensures { IfOk result (λ v. view v ≡ with_nulls (map lent_path paths.now) (view value.now)) }
 {
     if is_any_empty(paths) {

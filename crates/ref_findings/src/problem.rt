@@ -131,8 +131,8 @@ fn unresolvable_problem<'v>(uri: Rc<Uri>, reference: &str, error: Error) -> Opti
     Some(Problem::LeadsNowhere { uri, error })
 }
 
-// What is wrong with a text that means no URI.
-fn refused<'v>(fault: UriFault) -> Result<Option<Problem<'v>>, AllocError>
+/// What is wrong with a text that means no URI.
+pub(crate) fn refused<'v>(fault: UriFault) -> Result<Option<Problem<'v>>, AllocError>
     ensures { (meaning : Result (List ℕ) Refusal) (by : Result (List ℕ) Refusal → Option spec.Problem)
         → IsFaultOf meaning fault
         → ((refusal : Refusal) → by (Err refusal) ≡ Some (InvalidUri refusal))
