@@ -7,6 +7,7 @@ ghost use Rattle.serde_json.specs.View.{view};
 ghost use Rattle.ref_parts.specs.Pointer.{slash};
 ghost use Rattle.ref_draft.specs.Anchors.{Plain};
 ghost use Rattle.ref_definitions.specs.World.{World};
+ghost use Rattle.ref_definitions.specs.Places.{Place};
 ghost use Rattle.ref_definitions.specs.Resources.{own_uri, meant_place};
 ghost use Rattle.ref_definitions.specs.Anchors.{Named, anchor, named_by_identifier, named_entry, not_named};
 ghost use Rattle.ref_definitions.specs.Fault.{not_retrieved};
@@ -48,6 +49,17 @@ pub(crate) fn not_named(alloc: Global, name: &str) -> Error
     }
 }
 
+// The base of a place that has an identifier.
+fn identifier_base<'r>(place: Located<'r>) -> Option<&'r str>
+    ensures { (p : Place) → IsLocated place.entry p → option_map (λ b. b.now) result ≡ own_uri p }
+{
+    let id = ResourceRef::new(place.value, place.entry.draft).id();
+    if id.is_none() {
+        return None;
+    }
+    Some(place.entry.base.as_str())
+}
+
 // The base of the place that a URI means, where that place has an identifier.
 pub(crate) fn identified_base<'r>(layers: &Layers<'r>, uri: &str) -> Option<&'r str>
     ensures value { (name : List ℕ)
@@ -59,26 +71,21 @@ pub(crate) fn identified_base<'r>(layers: &Layers<'r>, uri: &str) -> Option<&'r 
         ≡ Some base.now) }
 {
     let place = layers.resource(uri)?;
-    if ResourceRef::new(place.value, place.entry.draft)
-        .id()
-        .is_none()
-    {
-        return None;
-    }
-    Some(place.entry.base.as_str())
+    identifier_base(place)
 }
 
 // The entry of a name under the base of the place that a URI means, where that place has an identifier. There is none under
-// the URI itself, so that it isn't looked for where that is the base.
+// the URI itself, so that neither it nor the identifier is looked for where that is the base.
 fn named_by_identifier<'r>(layers: &Layers<'r>, uri: &str, name: &str) -> Option<LocatedName<'r>>
     requires not_there { named_entry (world_in layers.now) uri.now name.now ≡ None }
     ensures { MatchOption result (named_by_identifier (world_in layers.now) uri.now name.now ≡ None)
         (IsNamed (named_by_identifier (world_in layers.now) uri.now name.now)) }
 {
-    let base = identified_base(layers, uri)?;
-    if base == uri {
+    let place = layers.resource(uri)?;
+    if place.entry.base.as_str() == uri {
         return None;
     }
+    let base = identifier_base(place)?;
     layers.named(base, name)
 }
 

@@ -4,8 +4,9 @@
 //! an anchor after each, and with the `$ref` of the last value. `flat` looks the identifiers up from one resolver, and
 //! `flat-ref` the `$ref` of each definition from a resolver at it. `pointer`,
 //! `pointer-type`, `pointer-plain` and `anchor` look a fragment up from resolvers at documents or identifiers. `here` looks `#` up
-//! where the scope isn't empty, and `resolved` resolves a `$ref` against the base at which it is. The documents are
-//! borrowed, and owned where the call ends with `-owned`.
+//! where the scope isn't empty, and `resolved` resolves a `$ref` against the base at which it is. Of a dynamic anchor each
+//! document of the scope has it, and where the text is `bare` the last one alone. The documents are borrowed, and owned
+//! where the call ends with `-owned`.
 
 use crate::workloads::line::Line;
 use crate::workloads::registries::{DEFINITIONS, documents_of, lent};
@@ -259,19 +260,30 @@ fn node_uri_of(alloc: Global, number: usize) -> Result<String, AllocError> {
     format!(in alloc; "http://example.com/t{number}")
 }
 
-/// A document with a dynamic anchor, under its URI.
-fn node_of(alloc: Global, number: usize) -> Option<(String, Value)> {
+/// A document with an anchor, under its URI.
+fn node_of(alloc: Global, number: usize, keyword: &str) -> Option<(String, Value)> {
     let uri = node_uri_of(alloc, number).ok()?;
-    let text = format!(in alloc; "{{\"$id\":\"{uri}\",\"$dynamicAnchor\":\"node\"}}").ok()?;
+    let text = format!(in alloc; "{{\"$id\":\"{uri}\",\"{keyword}\":\"node\"}}").ok()?;
     let value = Value::from_str(alloc, text.as_str()).ok()?;
     Some((uri, value))
 }
 
-/// So many documents, each with the same dynamic anchor.
-fn nodes_of(alloc: Global, size: usize) -> Option<Vec<(String, Value)>> {
+/// The keyword of the document of a number: of a dynamic anchor, or a comment in its place.
+fn keyword_of(line: Line<'_>, number: usize) -> &'static str {
+    if line.text == "bare" && number.saturating_add(1) < line.size {
+        "$comment"
+    } else {
+        "$dynamicAnchor"
+    }
+}
+
+/// The documents of a scope.
+fn nodes_of(alloc: Global, line: Line<'_>) -> Option<Vec<(String, Value)>> {
     let mut documents = Vec::new(alloc);
-    for number in 0..size {
-        documents.push(node_of(alloc, number)?).ok()?;
+    for number in 0..line.size {
+        documents
+            .push(node_of(alloc, number, keyword_of(line, number))?)
+            .ok()?;
     }
     Some(documents)
 }
@@ -292,7 +304,7 @@ fn among_nodes<'r>(alloc: Global, registry: &'r Registry<'_>, size: usize) -> Op
     Some(resolver)
 }
 
-/// How many times a dynamic anchor is found in a scope of so many URIs that all have it.
+/// How many times a dynamic anchor is found in a scope.
 fn dynamically(alloc: Global, resolver: &Resolver<'_>, times: u32) -> Result<u64, Error> {
     let mut sum: u64 = 0;
     for _ in 0..times {
@@ -320,7 +332,7 @@ fn is_dynamic(call: &str) -> bool {
 /// The documents of a line.
 fn documents_for(alloc: Global, line: Line<'_>) -> Option<Vec<(String, Value)>> {
     if is_dynamic(line.call) {
-        nodes_of(alloc, line.size)
+        nodes_of(alloc, line)
     } else {
         documents_of(alloc, line.size)
     }
