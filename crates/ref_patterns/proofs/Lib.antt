@@ -1,3 +1,4 @@
+pub mod Choosing
 pub mod Ends
 pub mod Read
 pub mod Said

@@ -1,3 +1,4 @@
+pub mod Choices
 pub mod Ignoring
 pub mod Patterns
 pub mod inner

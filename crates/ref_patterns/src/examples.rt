@@ -2,6 +2,7 @@
 #![tactic(auto)]
 
 ghost use Rattle.std.specs.Prelude.{◌≡◌, [], ◌∷◌, true, false, codes, None, Some};
+ghost use Rattle.ref_patterns.specs.Choices.{texts_of};
 ghost use Rattle.ref_patterns.specs.Ignoring.{below, last_said};
 ghost use Rattle.ref_patterns.specs.declared.pattern.Part.TheVariants.{Byte, Character, Name, Folders};
 ghost use Rattle.ref_patterns.specs.Patterns.{any_matches, is_wild, matches, parts_of};
@@ -30,6 +31,17 @@ pub fn choices()
     ensures none { any_matches ((Byte 97 ∷ []) ∷ (Byte 98 ∷ []) ∷ []) (codes "c") ≡ false }
     ensures star { is_wild 42 ≡ true }
     ensures backslash { is_wild 92 ≡ false }
+{}
+
+/// The texts that texts with braces stand for.
+pub fn braces()
+    ensures one { texts_of (codes "{a,b}.c") ≡ Some (codes "a.c" ∷ codes "b.c" ∷ []) }
+    ensures two { texts_of (codes "{a,b}{c,d}") ≡ Some (codes "ac" ∷ codes "ad" ∷ codes "bc" ∷ codes "bd" ∷ []) }
+    ensures nothing { texts_of (codes "a{}") ≡ Some (codes "a" ∷ []) }
+    ensures none { texts_of (codes "ab") ≡ Some (codes "ab" ∷ []) }
+    ensures not_closed { texts_of (codes "{a") ≡ None }
+    ensures not_opened { texts_of (codes "a}{b,c}") ≡ None }
+    ensures within_another { texts_of (codes "{a,{b}}") ≡ None }
 {}
 
 /// The parts of texts.

@@ -184,7 +184,7 @@ fn alternatives_of(alloc: Global, text: &str) -> Result<Vec<Vec<Part>>, AllocErr
     let mut all = Vec::new(alloc);
     let texts = without_classes(alloc, text)?;
     for text in &texts {
-        all.push(parts_of(alloc, text.as_str())?)?;
+        all.push(parts_of(alloc, text.as_bytes())?)?;
     }
     Ok(all)
 }
@@ -266,20 +266,22 @@ fn members_of(alloc: Global, class: &str) -> Result<Vec<char>, AllocError> {
             }
             _ => first,
         };
-        push_range(&mut members, first, last)?;
+        if !push_range(&mut members, first, last)? {
+            return Ok(Vec::new(alloc));
+        }
     }
     Ok(members)
 }
 
-fn push_range(members: &mut Vec<char>, first: char, last: char) -> Result<(), AllocError> {
+// Adds the characters from one to another. Returns whether there are not too many.
+fn push_range(members: &mut Vec<char>, first: char, last: char) -> Result<bool, AllocError> {
     for code in first as u32..=last as u32 {
         if members.len() >= MOST_ALTERNATIVES {
-            members.clear();
-            return Ok(());
+            return Ok(false);
         }
         if let Some(c) = char::from_u32(code) {
             members.push(c)?;
         }
     }
-    Ok(())
+    Ok(true)
 }

@@ -3,11 +3,11 @@
 //! Read `specs/Patterns.antt` first: it says which paths a pattern matches.
 #![tactic(auto)]
 
+mod choices;
 pub mod examples;
 mod ignoring;
 mod matching;
 mod pattern;
-mod tests;
 
 pub use ignoring::{Ignore, IgnoreList};
 pub use pattern::{Pattern, is_pattern};

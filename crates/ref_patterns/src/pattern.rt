@@ -1,8 +1,11 @@
 //! Patterns of paths.
-ghost use Rattle.std.specs.Prelude.{◌≡◌, ◌≤◌, ◌∷◌, ◌++◌, [], drop, IfOk, OnOk};
+ghost use Rattle.std.specs.Prelude.{◌≡◌, ◌≤◌, ◌∷◌, ◌++◌, [], drop, map, option_map, IfOk, OnOk};
 ghost use Rattle.std.specs.List.{list_any};
-ghost use Rattle.ref_patterns.specs.Patterns.{alternatives_of, any_matches, first_part, is_wild, parts_of, with_name};
+ghost use Rattle.ref_patterns.specs.Choices.{texts_of};
+ghost use Rattle.ref_patterns.specs.Patterns.{alternatives_of, any_matches, is_wild, parts_in, parts_of, with_name};
+ghost use Rattle.ref_patterns.specs.Patterns as spec;
 
+use crate::choices::texts_of;
 use crate::matching::is_matched;
 use std::alloc::{AllocError, Global};
 
@@ -18,9 +21,6 @@ pub(crate) enum Part {
     // `**/`: the names of folders with their slashes, or none.
     Folders,
 }
-
-// How many texts without braces one pattern may stand for.
-const MOST_ALTERNATIVES: usize = 256;
 
 /// A pattern of paths: `?` is a character of a name, `*` any number of them, `**/` at the beginning of a name any number of folders, `/**` at the end all that is
 /// below a folder, and `{a,b}` one of several texts.
@@ -38,14 +38,19 @@ pub fn is_pattern(text: &str) -> bool
 }
 
 impl Pattern {
-    /// The pattern that a text is. `None` where a brace isn't closed or is within another, or it stands for more than 256 texts without braces. Fails only if out of memory.
-    pub fn parse(alloc: Global, text: &str) -> Result<Option<Pattern>, AllocError> {
-        let Some(texts) = without_braces(alloc, text)? else {
+    /// The pattern that a text is. `None` where a brace isn't closed or opened, or is within another, or the text stands for more than 256
+    /// texts without braces. Fails only if out of memory. Linear in the text for each text that it stands for.
+    pub fn parse(alloc: Global, text: &str) -> Result<Option<Pattern>, AllocError>
+        ensures value { IfOk result
+            (λ found. option_map alternatives_of found
+            ≡ option_map (map parts_of) (texts_of text.now)) }
+    {
+        let Some(texts) = texts_of(alloc, text.as_bytes())? else {
             return Ok(None);
         };
         let mut alternatives = Vec::new(alloc);
         for text in &texts {
-            alternatives.push(parts_of(alloc, text.as_str())?)?;
+            push_parts(&mut alternatives, parts_of(alloc, text.as_slice())?)?;
         }
         Ok(Some(Pattern { alternatives }))
     }
@@ -64,8 +69,10 @@ impl Pattern {
     }
 }
 
-fn push_text(list: &mut Vec<String>, text: String) -> Result<(), AllocError> {
-    list.push(text)?;
+fn push_parts(list: &mut Vec<Vec<Part>>, parts: Vec<Part>) -> Result<(), AllocError>
+    ensures value { OnOk result (parts_in list.new.items ≡ parts_in list.old.items ++ parts.items ∷ []) }
+{
+    list.push(parts)?;
     Ok(())
 }
 
@@ -76,62 +83,11 @@ fn push_part(list: &mut Vec<Part>, part: Part) -> Result<(), AllocError>
     Ok(())
 }
 
-// The texts that a text with braces stands for.
-fn without_braces(alloc: Global, text: &str) -> Result<Option<Vec<String>>, AllocError> {
-    let mut texts = Vec::new(alloc);
-    push_text(&mut texts, String::new(alloc))?;
-    let mut rest = text;
-    for _ in 0..text.len() {
-        let Some((before, after)) = rest.split_once('{') else {
-            break;
-        };
-        let Some((inner, behind)) = after.split_once('}') else {
-            return Ok(None);
-        };
-        if inner.contains('{') {
-            return Ok(None);
-        }
-        let Some(more) = with_choices(alloc, texts, before, inner)? else {
-            return Ok(None);
-        };
-        texts = more;
-        rest = behind;
-    }
-    if rest.contains('}') {
-        return Ok(None);
-    }
-    for text in &mut texts {
-        text.push_str(rest)?;
-    }
-    Ok(Some(texts))
-}
-
-// Each text with another after it, and after that one of the choices.
-fn with_choices(
-    alloc: Global,
-    texts: Vec<String>,
-    before: &str,
-    choices: &str,
-) -> Result<Option<Vec<String>>, AllocError> {
-    let mut more = Vec::new(alloc);
-    for text in &texts {
-        for choice in choices.split(',') {
-            if more.len() >= MOST_ALTERNATIVES {
-                return Ok(None);
-            }
-            let text = [text.as_str(), before, choice].join(alloc, "")?;
-            push_text(&mut more, text)?;
-        }
-    }
-    Ok(Some(more))
-}
-
 // The parts of a text without braces.
-pub(crate) fn parts_of(alloc: Global, text: &str) -> Result<Vec<Part>, AllocError>
-    ensures value { IfOk result (λ parts. parts.items ≡ parts_of text.now) }
+pub(crate) fn parts_of(alloc: Global, bytes: &[u8]) -> Result<Vec<Part>, AllocError>
+    ensures value { IfOk result (λ parts. parts.items ≡ parts_of bytes.now) }
 {
     let mut parts = Vec::new(alloc);
-    let bytes = text.as_bytes();
     let mut index: usize = 0;
     for passed in 0..bytes.len() {
         if index >= bytes.len() {
@@ -156,19 +112,50 @@ fn push_read(list: &mut Vec<Part>, part: Part, is_last: bool) -> Result<(), Allo
     Ok(())
 }
 
+// The part that a star begins at the beginning of a name or not, with what is after it, and how many bytes it has.
+fn star(is_first: bool, rest: &[u8]) -> (Part, usize)
+    ensures { result ≡ spec.star is_first rest.now }
+{
+    if !is_first {
+        return (Part::Name, 1);
+    }
+    match rest {
+        [b'*'] => (Part::Folders, 2),
+        [b'*', b'/', ..] => (Part::Folders, 3),
+        _ => (Part::Name, 1),
+    }
+}
+
+// The part that a backslash begins, with what is after it, and how many bytes it has.
+fn escaped(rest: &[u8]) -> (Part, usize)
+    ensures { result ≡ spec.escaped rest.now }
+{
+    match rest {
+        [byte, ..] => (Part::Byte(*byte), 2),
+        [] => (Part::Byte(b'\\'), 1),
+    }
+}
+
 // The part at an index, and how many bytes it has.
 fn part_at(bytes: &[u8], index: usize, is_first: bool) -> (Part, usize)
-    ensures value { result ≡ first_part is_first (drop index bytes.now) }
+    ensures value { result ≡ spec.first_part is_first (drop index bytes.now) }
     ensures some { 1 ≤ result.1 }
 {
-    let rest = bytes.get(index..).unwrap_or(&[]);
-    match rest {
-        [b'*', b'*', b'/', ..] if is_first => (Part::Folders, 3),
-        [b'*', b'*'] if is_first => (Part::Folders, 2),
-        [b'*', ..] => (Part::Name, 1),
-        [b'?', ..] => (Part::Character, 1),
-        [b'\\', byte, ..] => (Part::Byte(*byte), 2),
-        [byte, ..] => (Part::Byte(*byte), 1),
-        [] => (Part::Name, 1),
+    first_part(bytes.get(index..).unwrap_or(&[]), is_first)
+}
+
+// The part that a text begins with, and how many bytes it has.
+fn first_part(text: &[u8], is_first: bool) -> (Part, usize)
+    ensures value { result ≡ spec.first_part is_first text.now }
+    ensures some { 1 ≤ result.1 }
+{
+    let Some((first, rest)) = text.split_first() else {
+        return (Part::Name, 1);
+    };
+    match *first {
+        b'*' => star(is_first, rest),
+        b'?' => (Part::Character, 1),
+        b'\\' => escaped(rest),
+        byte => (Part::Byte(byte), 1),
     }
 }

@@ -1,4 +1,5 @@
-//! The tests of `ref_uri`, `ref_paths`, `ref_parts` and `ref_draft`: the examples of the standards, and what no clause says.
+//! The tests of `ref_uri`, `ref_paths`, `ref_parts`, `ref_draft` and `ref_patterns`: the examples of the standards, and what no
+//! clause says.
 //!
 //! They are in a crate of their own, so that what is proved of those libraries isn't proved once more with them. Rows are in
 //! texts, since a row of a text costs no proof.
@@ -22,6 +23,8 @@ mod map_defaults;
 mod maps;
 #[cfg(test)]
 mod paths;
+#[cfg(test)]
+mod patterns;
 #[cfg(test)]
 mod reading;
 #[cfg(test)]

@@ -3,7 +3,8 @@
 use crate::asserts::same;
 use crate::row::{Row, for_each_row};
 use crate::{
-    children, drafts, lists, long_texts, map_defaults, maps, reading, sorted_tables, texts, uris,
+    children, drafts, lists, long_texts, map_defaults, maps, patterns, reading, sorted_tables,
+    texts, uris,
 };
 use ref_parts::SmallMap;
 use std::alloc::{AllocError, Global};
@@ -11,7 +12,7 @@ use std::process::Abort;
 use std::test::Fail;
 
 /// The texts that have rows.
-const TEXTS: [&str; 9] = [
+const TEXTS: [&str; 10] = [
     uris::ROWS,
     texts::ROWS,
     long_texts::ROWS,
@@ -21,6 +22,7 @@ const TEXTS: [&str; 9] = [
     drafts::ROWS,
     children::ROWS,
     reading::ROWS,
+    patterns::ROWS,
 ];
 
 #[test]
@@ -29,7 +31,7 @@ fn rows_hold(rt: HostRuntime) -> Result<(), Fail> {
     for rows in TEXTS {
         count = count.saturating_add(for_each_row(&rt, rt.alloc(), rows)?);
     }
-    same(&rt, count, 501);
+    same(&rt, count, 560);
     Ok(())
 }
 
@@ -100,6 +102,8 @@ fn ask_of_drafts<R: Abort>(rt: &R, alloc: Global, row: &Row<'_>) -> Result<(), A
         "paths of children" => children::paths(rt, alloc, row),
         "scans" => reading::scans(rt, alloc, row),
         "resources" => reading::resources(rt, row),
+        "patterns" => patterns::patterns(rt, alloc, row),
+        "ignored paths" => patterns::ignored_paths(rt, alloc, row),
         _ => {
             ask_without_memory(rt, row);
             Ok(())
@@ -118,6 +122,7 @@ fn ask_without_memory<R: Abort>(rt: &R, row: &Row<'_>) {
         "identifiers" => drafts::identifiers(rt, row),
         "known keywords" => drafts::known(rt, row),
         "anchors" => reading::anchors(rt, row),
+        "wild texts" => patterns::wild_texts(rt, row),
         table => row.same(rt, table, "no such table"),
     }
 }

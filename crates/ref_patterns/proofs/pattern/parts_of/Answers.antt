@@ -9,7 +9,7 @@ use Rattle.ref_patterns.proofs.pattern.parts_of.Goals.{then-index-eq0, else-inde
 
 pub loop-passed-preserved : goal.loop-passed-preserved
 loop-passed-preserved c =
-    let s = c.as_bytes-bytes.result.now in
+    let s = c.args.bytes.now in
     let i = c.loop-passed.index in
     let first : c.if-index-eq0.is_first ≡ is_first_at s i = elim c.if-index-eq0.branch [ then-index-eq0 w ↦ w.is_first-is ∙ eq-eqb i 0 w.if-index-eq0.true ∙ first_of_all s i w.if-index-eq0.true | else-index-eq0 w ↦ w.is_first-is ∙ first_is s i (omega arith) ] in
     let read = c.part_at-part.ensures.value ∙ ap (λ b. first_part b (drop i s)) first in
@@ -23,9 +23,9 @@ loop-passed-preserved c =
 
 pub returns : goal.returns
 returns c =
-    let s = c.as_bytes-bytes.result.now in
+    let s = c.args.bytes.now in
     let i = c.loop-passed.index in
     let all : length s ≤ i = elim c.loop-passed-test.branch [ else-loop-passed-test w ↦ omega arith | then-loop-passed-test+then-index-bytes w ↦ omega arith ] in
     record {
-      value = sym (append-nil c.loop-passed.parts.items) ∙ ap (λ (l : List Part). c.loop-passed.parts.items ++ l) (sym (after_all s i all)) ∙ c.loop-passed.invariant.0 ∙ ap parts_of c.as_bytes-bytes.ensures.value;
+      value = sym (append-nil c.loop-passed.parts.items) ∙ ap (λ (l : List Part). c.loop-passed.parts.items ++ l) (sym (after_all s i all)) ∙ c.loop-passed.invariant.0;
     }
