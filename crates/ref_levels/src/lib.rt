@@ -1,6 +1,7 @@
 //! The levels of rules: what the configuration and the command line set them to, and the least level that is listed.
 #![tactic(auto)]
 
+pub mod examples;
 mod least;
 mod levels;
 

@@ -1,0 +1,9 @@
+pub mod Results
+pub mod Names
+pub mod Members
+pub mod Settings
+pub mod Places
+pub mod Lines
+pub mod View
+pub mod Refusals
+pub mod inner
