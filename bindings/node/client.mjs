@@ -96,12 +96,13 @@ export class Patchsard {
     // The value of a text of YAML.
     async yaml(text) { return (await this.call("yaml", { text })).value; }
     // `retrieve` takes the URI of a document that isn't there, and answers a schema or a promise of one; `parent` is a registry. In place of a schema there may be `{ yaml: text }`.
+    // With `faults: "keep"` the registry has `faults`, the list of those that documents have, and nothing is retrieved.
     async open(documents, { retrieve, parent, ...members } = {}) {
         documents = await Promise.all(documents.map(async ([uri, schema]) => [uri, await this.#read(schema)]));
         for (const remote = new Map(); ; ) {
             try {
                 const answer = await this.call("open", { documents, remote: [...remote], parent: parent?.number, ...members });
-                return new Registry(this, answer.registry, this.#values(answer, documents, remote), parent);
+                return new Registry(this, answer, this.#values(answer, documents, remote), parent);
             } catch (error) {
                 if (!retrieve || !error.kind || remote.has(error.uri)) throw error;
                 remote.set(error.uri, await this.#read(await retrieve(error.uri)));
@@ -124,7 +125,7 @@ export class Patchsard {
 
 class Registry {
     #find = (answer) => this.#found(answer);
-    constructor(patchsard, number, documents, parent) { Object.assign(this, { patchsard, number, documents, parent }); }
+    constructor(patchsard, { registry: number, faults }, documents, parent) { Object.assign(this, { patchsard, number, faults, documents, parent }); }
     // A list of references is one call, and gets a list: in each one's place what it leads to, or `{ error }`.
     lookup(base, reference, scope = []) {
         const from = { registry: this.number, base, scope };

@@ -81,6 +81,16 @@ test("documents that are retrieved", async () => {
     await assert.rejects(patchsard.open([[base, { $ref: "item" }]]), { name: "Unretrievable", uri: "https://example.com/item", kind: "reference" });
 });
 
+test("faults that are kept", async () => {
+    const [a, b] = [{ $id: "a b", not: { $ref: "gone#/x" }, items: { $ref: "b" } }, { $anchor: "n" }];
+    const documents = [["https://example.com/a", a], ["https://example.com/b", b]];
+    await assert.rejects(patchsard.open(documents), { name: "InvalidUri" });
+    const registry = await patchsard.open(documents, { faults: "keep" });
+    assert.deepEqual(registry.faults.map((it) => [it.document, it.pointer, it.keyword, it.text, it.error.name]), [[0, "", "$id", "a b", "InvalidUri"], [0, "/not", "$ref", "gone#/x", "Unretrievable"]]);
+    assert.equal((await registry.lookup("https://example.com/a", "b#n")).value, b);
+    await assert.rejects(registry.lookup("https://example.com/a", "gone"), { name: "Unretrievable", uri: "https://example.com/gone" });
+});
+
 test("a registry behind another", async () => {
     const parent = await patchsard.open([[base, order]]);
     const part = { $ref: "order#odd" };

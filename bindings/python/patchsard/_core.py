@@ -8,7 +8,7 @@ import weakref
 from typing import Any, Callable, Dict, Iterable, Iterator, List, Literal, Mapping, NamedTuple, Optional, Sequence, Set, Tuple, TypeVar, Union, overload
 
 from patchsard import _process
-from patchsard.exceptions import CallRefused, CannotDetermineSpecification, InvalidUri, NoInternalID, NoSuchAnchor, NoSuchResource, NotYaml, ProcessEnded, ProgramNotFound, Unresolvable, Unretrievable, from_answer
+from patchsard.exceptions import CallRefused, CannotDetermineSpecification, InvalidUri, NoInternalID, NoSuchAnchor, NoSuchResource, NotYaml, ProcessEnded, ProgramNotFound, RetrievalLimit, Unresolvable, Unretrievable, from_answer
 
 Schema = Any
 Pairs = Iterable[Tuple[str, Any]]
@@ -19,7 +19,9 @@ _encode = json.JSONEncoder(separators=(",", ":"), allow_nan=False, ensure_ascii=
 _encode_text = json.encoder.encode_basestring
 # After as many documents that were retrieved one at a time, they are looked for ahead.
 _ROUNDS = 4
-# In place of a document that isn't there.
+# The member of a call of `open` by which faults are kept.
+_KEEPS = ',"faults":"keep"'
+# In place of a meta-schema that isn't there.
 _MISSING = object()
 # How the URIs of the drafts' meta-schemas begin.
 _OF_DRAFTS = ("http://json-schema.org/", "https://json-schema.org/")
@@ -473,14 +475,6 @@ class _Opened:
             names = [str(it) for it in range(len(value))]
             after = int(last) + 1
         return value, names[after:] + names[:after]
-
-    def without(self, uris: Set[str]) -> Set[str]:
-        """Those of some URIs under which there is no document here or in the parents."""
-        listed = sorted(uris)
-        if not listed:
-            return set()
-        answers = self.ask("", "lookup", f',"base":"json-schema:///","reference":{_encode(listed)}')
-        return {uri for uri, answer in zip(listed, answers) if answer.get("error", {}).get("name") == "Unretrievable"}
 
     def scope_number(self, scope: Tuple[str, ...], sent: Sequence[Union[str, int]]) -> Optional[int]:
         """The number under which the program keeps a scope, which is sent so where it doesn't yet; none where it keeps many already."""
@@ -1103,32 +1097,33 @@ class Registry(Mapping[str, Resource]):
         remote = {uri: _text(uri, resource) for uri, resource in retrieved.items()}
         head = self._members(parent)
         rounds = 0
-        # The documents that aren't there, and the faults of texts that are `null` in their place.
+        # The documents that aren't there; and whether faults are kept, which is asked for once there is one.
         missing: Set[str] = set()
-        mended: List[Tuple[str, Dict[str, Any]]] = []
+        keeps = False
         while True:
-            line = _sent(f'{head},"documents":[{_listed(texts)}],"remote":[{_listed(remote)}]}}\n', texts, remote)
+            line = _sent(f'{head}{_KEEPS if keeps else ""},"documents":[{_listed(texts)}],"remote":[{_listed(remote)}]}}\n', texts, remote)
             answer = process.ask(line, self._timeout)
-            if "error" not in answer:
-                break
-            error = _at_place(from_answer(answer["error"], answer["error"].get("uri", "")), answer["error"], texts, remote)
-            if isinstance(error, CallRefused):
-                raise _refused(error, texts, remote)
-            if isinstance(error, InvalidUri) and self._allow_missing and self._mend(process, parent, texts, remote, missing, mended):
-                continue
-            if not isinstance(error, Unretrievable) or error.uri is None or error.uri in remote:
-                raise error
-            if self._adds_meta_schemas(error.uri):
-                raise _MetaWanted
-            if self._retrieve is None and not self._allow_missing:
-                raise error
-            found = None if error.uri in missing else self._retrieved_unless_missing(error)
-            if found is not None:
-                retrieved[error.uri], remote[error.uri] = found
+            if "error" in answer:
+                error = _at_place(from_answer(answer["error"], answer["error"].get("uri", "")), answer["error"], texts, remote)
+                if isinstance(error, CallRefused):
+                    raise _refused(error, texts, remote)
+                is_dialect = answer["error"].get("kind") == "meta-schema"
+                if self._allow_missing and not keeps and isinstance(error, (InvalidUri, Unretrievable)) and not is_dialect:
+                    keeps = True
+                    continue
+                if not isinstance(error, Unretrievable) or error.uri is None or error.uri in remote:
+                    raise error
+                if self._adds_meta_schemas(error.uri):
+                    raise _MetaWanted
+                if self._retrieve is None and not self._allow_missing:
+                    raise error
+                found = self._retrieved_unless_missing(error)
+                # In place of a meta-schema that isn't there the program wants some document.
+                retrieved[error.uri], remote[error.uri] = found or (Resource(_MISSING), f'{{"$schema":"{self._draft.uri}"}}')
+            elif keeps and self._retrieve_kept(answer["result"].get("faults", []), retrieved, remote, missing):
+                _Opened(process, answer["result"]["registry"], [], parent, self._timeout, len(line)).close()
             else:
-                missing.add(error.uri)
-                if not self._mend(process, parent, texts, remote, missing, mended):
-                    retrieved[error.uri], remote[error.uri] = Resource(_MISSING), f'{{"$schema":"{self._draft.uri}"}}'
+                break
             rounds += 1
             if rounds == _ROUNDS:
                 self._retrieve_ahead(process, parent, texts, retrieved, remote, missing)
@@ -1141,8 +1136,9 @@ class Registry(Mapping[str, Resource]):
             documents[number] = resource.contents
         opened = _Opened(process, result["registry"], documents, parent, self._timeout, len(line))
         opened.uris = result["documents"]
-        numbers = {**{uri: number for number, uri in enumerate(opened.uris)}, **dict(zip(texts, result["given"]))}
-        opened.unmet = [_Unmet(numbers[uri], it["pointer"], it["keyword"], it["text"], it["error"]) for uri, it in mended if uri in numbers]
+        # The numbers of the documents that were given, and of those that were used besides, which come after them.
+        numbers = result["given"] + list(range(len(set(result["given"])), len(opened.uris)))
+        opened.unmet = [_Unmet(numbers[it["document"]], it["pointer"], it["keyword"], it["text"], it["error"]) for it in result.get("faults", [])]
         self._retrieved = {uri: resource for uri, resource in retrieved.items() if resource.contents is not _MISSING}
         nulls = {it.document for it in opened.unmet if not it.pointer and it.keyword in ("$id", "id")}
         resources = {**{number: retrieved[uri] for number, uri in enumerate(opened.uris) if uri in retrieved}, **dict(zip(result["given"], self._documents.values()))}
@@ -1152,42 +1148,30 @@ class Registry(Mapping[str, Resource]):
         opened.identified.update({text: opened.identified[opened.uris[it]] for text, it in zip(texts, result["given"]) if opened.uris[it] in opened.identified})
         return opened
 
-    def _faults(self, process: _process.Process, texts: Dict[str, str], remote: Dict[str, str]) -> Iterator[Tuple[str, Dict[str, Any]]]:
-        """What is wrong with identifiers and references of these documents, each with the URI of its document."""
-        documents = {**remote, **texts}
-        answer = process.ask(f'{{"call":"faults","draft":"{self._draft.name}","documents":[{_listed(documents)}]}}\n'.encode("utf-8"), self._timeout)
-        uris = list(documents)
-        return ((uris[it["document"]], it) for it in answer.get("result", []))
+    def _retrieve_kept(self, faults: List[Dict[str, Any]], retrieved: Dict[str, Resource], remote: Dict[str, str], missing: Set[str]) -> bool:
+        """Retrieves the documents that kept faults name and that weren't asked for; whether there is one of them now. Where there is no function to retrieve, none is."""
+        wanted = dict.fromkeys(it["error"]["uri"] for it in faults if it["error"]["name"] == "Unretrievable" and it["error"]["uri"] not in missing)
+        if any(self._adds_meta_schemas(uri) for uri in wanted):
+            raise _MetaWanted
+        has_more = False
+        for uri in wanted if self._retrieve is not None else ():
+            error = Unretrievable(uri, "The document isn't there")
+            error.uri = uri
+            found = self._retrieved_unless_missing(error)
+            if found is None:
+                missing.add(uri)
+                continue
+            if len(remote) >= self._most():
+                limited = RetrievalLimit("", f"More than {self._most()} documents are wanted")
+                limited.uri = uri
+                raise limited
+            retrieved[uri], remote[uri] = found
+            has_more = True
+        return has_more
 
-    def _mend(
-        self, process: _process.Process, parent: Optional[_Opened], texts: Dict[str, str], remote: Dict[str, str], missing: Set[str], mended: List[Tuple[str, Dict[str, Any]]]
-    ) -> bool:
-        """Puts `null` in place of the texts that are no URI references, and of the references to documents that are missing, so that the program opens the other references and
-        identifiers, and takes such an identifier of a root away; whether there were any. Where nothing is retrieved, all are missing that the parents don't have."""
-        faults = list(self._faults(process, texts, remote))
-        if self._retrieve is None:
-            wanted = {it["error"]["uri"] for _, it in faults if it["error"]["name"] == "Unretrievable"} - missing
-            if any(self._adds_meta_schemas(uri) for uri in wanted):
-                raise _MetaWanted
-            missing |= wanted if parent is None else parent.without(wanted)
-        faulty: Dict[str, List[Dict[str, Any]]] = {}
-        for uri, fault in faults:
-            error, keyword = fault["error"], fault.get("keyword")
-            is_text = error["name"] == "InvalidUri" and keyword in ("$id", "id", "$ref", "$schema")
-            if is_text or error["name"] == "Unretrievable" and keyword == "$ref" and error["uri"] in missing:
-                faulty.setdefault(uri, []).append(fault)
-                mended.append((uri, fault))
-        for uri, those in faulty.items():
-            among = texts if uri in texts else remote
-            tree = json.loads(among[uri])
-            for fault in those:
-                schema, keyword = _at(tree, fault["pointer"]), fault["keyword"]
-                schema[keyword] = None
-                if not fault["pointer"] and keyword in ("$id", "id"):
-                    # A bundle gives an identifier to a root that has none.
-                    del schema[keyword]
-            among[uri] = _encode(tree)
-        return bool(faulty)
+    def _most(self) -> int:
+        """How many documents may be retrieved."""
+        return 10000 if self._limit is None else self._limit
 
     def _members(self, parent: Optional[_Opened]) -> str:
         """The begin of a call `open`."""
@@ -1208,7 +1192,7 @@ class Registry(Mapping[str, Resource]):
             return
         stubs = _Opened(process, answer["result"]["registry"], [], parent, self._timeout)
         known = {*answer["result"]["documents"], *remote}
-        most = 10000 if self._limit is None else self._limit
+        most = self._most()
         level = {**texts, **remote}
         while level:
             wanted: Dict[str, Unretrievable] = {}

@@ -218,7 +218,7 @@ class OneProcess(unittest.TestCase):
             self.assertNotEqual(_process.shared().pid, pid)
 
     def test_each_call_has_the_limit_of_time(self):
-        """Also those by which a registry is opened: of what is retrieved, of faults, of texts of YAML and of the drafts' meta-schemas."""
+        """Also those by which a registry is opened: of what is retrieved, of texts of YAML and of the drafts' meta-schemas."""
         asked = []
         ask = _process.Process.ask
 
@@ -240,7 +240,7 @@ class OneProcess(unittest.TestCase):
             held.dangling(), held.survey(), held.bundle("u:0")
             _process.shared().stop()
         self.assertEqual({timeout for _, timeout in asked}, {LONG})
-        self.assertEqual({name for name, _ in asked}, {"yaml", "open", "faults", "places", "lookup", "enter", "recursive", "scope", "dangling", "survey", "bundle"})
+        self.assertEqual({name for name, _ in asked}, {"yaml", "open", "places", "lookup", "enter", "recursive", "scope", "dangling", "survey", "bundle"})
 
     def test_a_call_that_waits_too_long_for_another(self):
         held = Registry({"u:a": SCHEMA}, timeout=LONG)

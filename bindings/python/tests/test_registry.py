@@ -491,6 +491,37 @@ class Retrieval(unittest.TestCase):
             for it in found:
                 self.assertEqual(it.error.ref, it.contents["$ref"])
 
+    def test_what_is_missing_is_told_at_once(self):
+        documents = {f"https://example.com/{number}": {"allOf": [{"$ref": f"gone{number}"}, {"$ref": f"g h{number}"}, {"$id": f"i j{number}"}]} for number in range(40)}
+        files = {f"https://example.com/gone{number}": {"not": {"$ref": f"away{number}"}} for number in range(0, 40, 2)}
+        asked, ask = [], patchsard._process.Process.ask
+
+        def seen(process, line, timeout=None):
+            asked.append(line)
+            return ask(process, line, timeout)
+
+        for retrieve, missing, most in ((None, 40, 2), (files.get, 40, 3)):
+            with mock.patch.object(patchsard._process.Process, "ask", seen):
+                registry = Registry(documents, retrieve=retrieve, allow_missing=True).crawl()
+            told = [it.error for it in registry.dangling()]
+            self.assertEqual([sum(isinstance(it, kind) for it in told) for kind in (patchsard.Unretrievable, patchsard.InvalidUri)], [missing, 40])
+            self.assertLessEqual(sum(b'"call":"open"' in it[:40] for it in asked), most + 1)
+            asked.clear()
+
+    def test_faults_of_what_is_retrieved(self):
+        a, b = {"$id": "https://example.com/a", "$ref": "b"}, {"not": {"$ref": "gone"}, "items": {"$id": "c d"}}
+        registry = Registry({"https://example.com/a": a}, retrieve={"https://example.com/b": b}.get, allow_missing=True)
+        self.assertEqual(registry.bundle("https://example.com/a"), {**a, "$defs": {"https://example.com/b": {**b, "$id": "https://example.com/b"}}})
+        ((document, pointer, error),) = registry.dangling()
+        self.assertIs(document, b)
+        self.assertEqual((pointer, error.uri), ("/not", "https://example.com/gone"))
+
+    def test_the_limit_where_some_are_missing(self):
+        chain = Registry(retrieve=lambda uri: {"$ref": uri + "x", "not": {"$ref": "a b"}}, limit=3, allow_missing=True).with_resource("https://example.com/a", {"$ref": "b"})
+        with self.assertRaises(patchsard.RetrievalLimit) as raised:
+            chain.crawl()
+        self.assertEqual(raised.exception.uri, "https://example.com/bxxx")
+
     def test_what_a_parent_has_is_not_missing(self):
         parent = Registry({"https://example.com/p": {"$anchor": "n", "$defs": {"i": {"$id": "inner"}}}})
         schema = {"allOf": [{"$ref": "p#n"}, {"$ref": "inner"}, {"$ref": "p#/no"}, {"$ref": "nowhere"}]}

@@ -1,6 +1,7 @@
 -- A call: which one an object is, and its members.
-use Rattle.std.specs.Prelude.{ℕ, suc, Bool, false, ◌||◌, List, [], ◌∷◌, codes, Option, Some, None, option_map, option_and_then, Result, Ok, Err, ok_or, is_some, bytes_eq, if◌then◌else◌}
+use Rattle.std.specs.Prelude.{ℕ, suc, Bool, true, false, ◌||◌, List, [], ◌∷◌, codes, Option, Some, None, option_map, option_and_then, Result, Ok, Err, ok_or, is_some, bytes_eq, if◌then◌else◌}
 use Rattle.std.specs.List.{list_any}
+use Rattle.std.specs.Option.{option_map_or}
 use Rattle.serde_json.specs.Data.{Data, Items, no_items, item, Members, no_members, member}
 use Rattle.serde_json.specs.Find.{get, as_bool, as_str, as_array, as_object, as_number, as_u64}
 use Rattle.ref_uri.specs.Targets.{uri_of}
@@ -56,7 +57,8 @@ fields_of DraftOf = codes "schema" ∷ codes "draft" ∷ []
 fields_of Yaml = codes "text" ∷ []
 fields_of Faults = codes "documents" ∷ codes "remote" ∷ codes "draft" ∷ []
 fields_of Open =
-    codes "documents" ∷ codes "remote" ∷ codes "parent" ∷ codes "draft" ∷ codes "limit" ∷ []
+    codes "documents" ∷ codes "remote" ∷ codes "parent" ∷ codes "draft" ∷ codes "limit"
+    ∷ codes "faults" ∷ []
 fields_of Lookup =
     codes "registry" ∷ codes "base" ∷ codes "scope" ∷ codes "reference" ∷ codes "values" ∷ []
 fields_of Recursive = codes "registry" ∷ codes "base" ∷ codes "scope" ∷ codes "values" ∷ []
@@ -146,6 +148,19 @@ is_set_at field (Some d) = ok_or (as_bool d) (field_error InvalidField field)
 
 abbrev pub is_set : List ℕ → Data → Result Bool Data
 is_set field d = is_set_at field (get field d)
+
+-- whether faults are kept: `faults` says so by the text `keep`, and else isn't there
+abbrev pub keeps_in : Data → Result Bool Data
+keeps_in d =
+    if option_map_or (λ text. bytes_eq text (codes "keep")) (as_str d) false then Ok true
+    else Err (field_error InvalidField (codes "faults"))
+
+abbrev pub keeps_at : Option Data → Result Bool Data
+keeps_at None = Ok false
+keeps_at (Some d) = keeps_in d
+
+unfoldable pub keeps_faults : Data → Result Bool Data
+keeps_faults d = keeps_at (get (codes "faults") d)
 
 -- the draft under `draft`, or else 2020-12
 abbrev pub draft_at : Option Data → Result Draft Data

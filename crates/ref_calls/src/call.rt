@@ -100,7 +100,7 @@ fn fields_of(call: Call) -> &'static [&'static str]
         Call::DraftOf => &["schema", "draft"],
         Call::Yaml => &["text"],
         Call::Faults => &["documents", "remote", "draft"],
-        Call::Open => &["documents", "remote", "parent", "draft", "limit"],
+        Call::Open => &["documents", "remote", "parent", "draft", "limit", "faults"],
         Call::Lookup => &["registry", "base", "scope", "reference", "values"],
         Call::Recursive => &["registry", "base", "scope", "values"],
         Call::Enter => &["registry", "base", "scope", "schema", "draft"],

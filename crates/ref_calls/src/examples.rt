@@ -9,7 +9,7 @@ ghost use Rattle.ref_definitions.specs.Fault.{PointerToNowhere, InvalidPercentEn
 ghost use Rattle.ref_definitions.specs.Rows.{yes, text, whole_number, empty, one, two, list, pair};
 ghost use Rattle.ref_calls.specs.declared.call.Call.TheVariants.{Hello, Uri, DraftOf, Yaml, Faults, Open, Lookup, Recursive, Enter, Follow, Scope, Places, Survey, References, Dangling, Compare, Vocabularies, Bundle, Close};
 ghost use Rattle.ref_calls.specs.declared.fault.Wrong.TheVariants.{UnknownField, MissingField, InvalidField, UnknownRegistry, UnknownScope};
-ghost use Rattle.ref_calls.specs.Calls.{call_of, call_named, call_names, is_known, required_member, text_in, number_in, is_set, draft_of, schema_of, base_of, document_of, documents_of, documents_at, needed_documents, under_uris};
+ghost use Rattle.ref_calls.specs.Calls.{call_of, call_named, call_names, is_known, required_member, text_in, number_in, is_set, keeps_faults, draft_of, schema_of, base_of, document_of, documents_of, documents_at, needed_documents, under_uris};
 ghost use Rattle.ref_calls.specs.Scopes.{own_scope, scope_in, scope_of, scope_answered};
 ghost use Rattle.ref_calls.specs.Yaml.{yaml_document, with_value, IsItemRead, value_object};
 ghost use Rattle.ref_calls.specs.Errors.{not_json, not_yaml, field_error, with_field, with_index, fault_error, fault_name, wanted_document};
@@ -68,6 +68,12 @@ pub fn members()
     ensures not_set { is_set (codes "values") empty ≡ Ok false }
     ensures no_flag { told "name" (is_set (codes "values") (one "values" (whole_number 1)))
         ≡ Some (text "InvalidField") }
+    ensures kept_faults { keeps_faults (one "faults" (text "keep")) ≡ Ok true }
+    ensures no_kept_faults { keeps_faults empty ≡ Ok false }
+    ensures faults_in_another_way { told "name" (keeps_faults (one "faults" (text "drop")))
+        ≡ Some (text "InvalidField") }
+    ensures faults_by_no_text { told "field" (keeps_faults (one "faults" yes))
+        ≡ Some (text "faults") }
     ensures draft { draft_of (one "draft" (text "7")) ≡ Ok Draft7 }
     ensures oldest_draft { draft_of (one "draft" (text "4")) ≡ Ok Draft4 }
     ensures default_draft { draft_of empty ≡ Ok Draft202012 }

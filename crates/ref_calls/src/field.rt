@@ -102,6 +102,20 @@ pub fn is_set(alloc: Global, tree: &Value, field: &str) -> Result<bool, Stop<Val
     }
 }
 
+/// Whether `faults` says that they are kept; it isn't there else.
+#[tactic(auto, unfolding(crate::specs::Calls::keeps_faults))]
+pub fn keeps_faults(alloc: Global, tree: &Value) -> Result<bool, Stop<Value>>
+    ensures { Answers (λ b. b) result (spec.keeps_faults (view tree.now)) }
+{
+    let Some(value) = tree.get("faults") else {
+        return Ok(false);
+    };
+    match value.as_str() {
+        Some("keep") => Ok(true),
+        _ => Err(field_error(alloc, Wrong::InvalidField, "faults")),
+    }
+}
+
 /// The draft under `draft`, or else 2020-12.
 #[tactic(auto, unfolding(crate::specs::Calls::draft_of))]
 pub fn draft_of(alloc: Global, tree: &Value) -> Result<Draft, Stop<Value>>

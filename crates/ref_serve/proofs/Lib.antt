@@ -15,3 +15,5 @@ pub mod OnLiterals
 pub mod Choosing
 pub mod ThreeLists
 pub mod MovesRead
+pub mod Passing
+pub mod MendedWhole

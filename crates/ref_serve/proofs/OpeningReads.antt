@@ -1,5 +1,6 @@
 -- What `open` reads and answers.
-use Rattle.std.proofs.Common.{◌≡◌, ℕ, List, [], ◌∷◌, ◌++◌, codes, length, Option, Some, None, option_map, option_and_then, ok_or, unwrap_or, Result, Ok, Err, refl, sym, ap, subst, ◌∙◌}
+use Rattle.std.proofs.Common.{◌≡◌, ℕ, ◌+◌, true, false, List, [], ◌∷◌, ◌++◌, map, append_assoc, codes, length, Option, Some, None, option_map, option_and_then, ok_or, unwrap_or, Result, Ok, Err, refl, sym, ap, subst, ◌∙◌}
+use Rattle.std.proofs.lemmas.List.{length-append}
 use Rattle.serde_json.specs.Data.{Data}
 use Rattle.serde_json.specs.View.{view}
 use Rattle.serde_json.specs.declared.value.Value.{Value}
@@ -14,15 +15,21 @@ use Rattle.ref_calls.specs.declared.fault.Wrong.TheVariants.{UnknownRegistry}
 use Rattle.ref_json.specs.declared.stop.Stop.{Stop}
 use Rattle.ref_json.specs.declared.stop.Stop.TheVariants.{Memory, Because}
 use Rattle.ref_calls.specs.Calls.{number_in}
+use Rattle.ref_calls.specs.Objects.{object_of, whole}
 use Rattle.ref_calls.specs.Errors.{field_error, fault_error, with_field, IsStopOf}
 use Rattle.ref_calls.specs.Outcome.{IsStop, IsChanged, Stops}
 use Rattle.ref_serve.specs.declared.opening.Opened.{Opened}
 use Rattle.ref_serve.specs.State.{OpenRegistry, Registries, open_at, numbered_registry, registry_in}
-use Rattle.ref_serve.specs.Opening.{Opening, Parent, AboveLayers, AboveMetaSchemas, above_registry, layers_in, opening_of, given_of_opening, below_meta, IsOpeningWorld, IsMetaWorld, IsOpenedBy, IsOpenedAs}
+use Rattle.ref_calls.specs.Given.{given_of}
+use Rattle.ref_serve.specs.declared.mending.MendedDocuments.{MendedDocuments}
+use Rattle.ref_serve.specs.Mending.{Mended, IsMended}
+use Rattle.ref_serve.specs.inner.Mended.{mended_view, GivesMended}
+use Rattle.ref_serve.specs.declared.opening.Added.{Added}
+use Rattle.ref_serve.specs.Opening.{Opening, Parent, AboveLayers, AboveMetaSchemas, above_registry, layers_in, opening_of, uri_given, opened_members, given_of_opening, Below, below_open, below_meta, Prepared, prepared_of, IsPrepared, IsPreparedAs, IsOpeningWorld, IsMetaWorld, IsOpenedFrom, IsOpenedAbove, IsOpenedBy, IsOpenedAs}
 use Rattle.referencing.specs.MetaSchemas.{given_of_meta_schemas}
 use Rattle.ref_registries.specs.Worlds.{pending_of, IsWorld, IsErrorOf}
 use Rattle.ref_serve.specs.Answering.{IsOpened}
-use Rattle.ref_serve.specs.inner.Openings.{layers_at, IsWorldOr, IsMetaWorldOr, GivesOpened}
+use Rattle.ref_serve.specs.inner.Openings.{layers_at, faults_members, IsWorldOr, IsMetaWorldOr, IsAddedOr, IsErrorFrom, GivesPrepared, GivesOpened}
 
 -- ---- parents
 
@@ -91,9 +98,43 @@ meta_stopped documents added e stop result same is says change =
 
 -- ---- answers
 
-pub opened_none : (state : Registries) (o : Opening) (layers : OpenRegistry) (stop : Stop Value) → IsWorldOr o layers (Err stop) → GivesOpened (IsOpenedBy (AboveLayers layers) o state) state (Err stop)
-opened_none state o layers Memory world = tt
-opened_none state o layers (Because value) (fault, world, says) = (Err fault, world, (ap Err says, refl))
+-- an error of what is prepared, or of opening it, is that of the whole
+error_from : (state : Registries) (o : Opening) (below : Below) (layers : OpenRegistry) (error : Data) (prepared : Result Prepared Data) → layers ≡ below.layers → IsErrorFrom layers error prepared → IsOpenedFrom o below state state prepared (Err error)
+error_from state o below layers error (Ok p) is (fault, world, says) = (Err fault, subst (λ l. IsOpeningWorld p.opening l.0 (Err fault)) is world, (ap Err says, refl))
+error_from state o below layers error (Err other) is says = (ap Err says, refl)
+
+above_error : (state : Registries) (o : Opening) (below : Below) (layers : OpenRegistry) (value : Value) → layers ≡ below.layers → IsAddedOr o layers (Err (Because value)) → IsOpenedAbove o below state state (Err (view value))
+above_error state o below layers value is (prepared, may, from) =
+    (prepared, subst (λ l. IsPrepared o l.0 prepared) is may, error_from state o below layers (view value) prepared is from)
+
+pub opened_none : (state : Registries) (o : Opening) (layers : OpenRegistry) (stop : Stop Value) → IsAddedOr o layers (Err stop) → GivesOpened (IsOpenedBy (AboveLayers layers) o state) state (Err stop)
+opened_none state o layers Memory added = tt
+opened_none state o layers (Because value) added = above_error state o (below_open state layers) layers value refl added
+
+-- the registries with what was opened, and the result with its members
+above_added : (state : Registries) (o : Opening) (below : Below) (layers : OpenRegistry) (added : Added) (next : Registries) (result : Data) → layers ≡ below.layers → IsAddedOr o layers (Ok added)
+    → result ≡ object_of (opened_members (length below.registries) added.registry.0 (map uri_given (map (λ d. d.0) o.documents)) ++ (below.members ++ faults_members added.faults))
+    → next ≡ below.registries ++ Some (added.registry, []) ∷ [] → IsOpenedAbove o below state next (Ok result)
+above_added state o below layers added next result is (p, may, (world, numbers, members)) told all = (
+  Ok p,
+  subst (λ l. IsPrepared o l.0 (Ok p)) is may,
+  (
+    Ok added.registry.0,
+    subst (λ l. IsOpeningWorld p.opening l.0 (Ok added.registry.0)) is world,
+    (
+      ap Ok (told ∙ ap (λ ms. object_of (opened_members (length below.registries) added.registry.0 (map uri_given (map (λ d. d.0) o.documents)) ++ (below.members ++ ms))) (sym members)),
+      all ∙ ap (λ ns. below.registries ++ Some ((added.registry.0, ns), []) ∷ []) (numbers ∙ ap (λ l. l.1) is),
+    ),
+  ),
+)
+
+pub opened_one : (state : Registries) (o : Opening) (layers : OpenRegistry) (number : ℕ) (added : Added) (opened : Opened) (uris : List (Option (List ℕ))) → IsAddedOr o layers (Ok added) → number ≡ length state
+    → uris ≡ map uri_given (map (λ d. d.0) o.documents) → view opened.result ≡ object_of (opened_members number added.registry.0 uris ++ faults_members added.faults) → opened.registries.items ≡ Some (added.registry, []) ∷ []
+    → GivesOpened (IsOpenedBy (AboveLayers layers) o state) state (Ok opened)
+opened_one state o layers number added opened uris is counted given told one =
+    above_added state o (below_open state layers) layers added (state ++ opened.registries.items) (view opened.result) refl is
+    (told ∙ ap (λ n. object_of (opened_members n added.registry.0 uris ++ faults_members added.faults)) counted
+    ∙ ap (λ us. object_of (opened_members (length state) added.registry.0 us ++ faults_members added.faults)) given) (ap (λ rs. state ++ rs) one)
 
 -- the layers of a registry of meta-schemas that gets the next number
 pub meta_layers : (state : Registries) (number : ℕ) (parent : OpenRegistry) (world : World) (numbers : List ℕ) → number ≡ length state → parent.1 ≡ [] → world ≡ parent.0 → numbers ≡ number ∷ parent.1 → (world, numbers) ≡ (below_meta state parent.0).layers
@@ -104,11 +145,63 @@ pub no_meta : (state : Registries) (o : Opening) (documents : List (List ℕ × 
 no_meta state o documents Memory world = tt
 no_meta state o documents (Because value) (fault, world, says) = (Err fault, world, (ap Err says, refl))
 
-pub opened_neither : (state : Registries) (o : Opening) (documents : List (List ℕ × Data)) (parent layers : OpenRegistry) (stop : Stop Value) → IsMetaWorldOr documents (Ok parent) → layers ≡ (below_meta state parent.0).layers → IsWorldOr o layers (Err stop)
+pub opened_neither : (state : Registries) (o : Opening) (documents : List (List ℕ × Data)) (parent layers : OpenRegistry) (stop : Stop Value) → IsMetaWorldOr documents (Ok parent) → layers ≡ (below_meta state parent.0).layers → IsAddedOr o layers (Err stop)
     → GivesOpened (IsOpenedBy (AboveMetaSchemas documents) o state) state (Err stop)
-opened_neither state o documents parent layers Memory meta is world = tt
-opened_neither state o documents parent layers (Because value) meta is (fault, world, says) =
-    (Ok parent.0, meta.0, (Err fault, subst (λ l. IsOpeningWorld o l.0 (Err fault)) is world, (ap Err says, refl)))
+opened_neither state o documents parent layers Memory meta is added = tt
+opened_neither state o documents parent layers (Because value) meta is added =
+    (Ok parent.0, meta.0, above_error state o (below_meta state parent.0) layers value is added)
+
+pub opened_both : (state : Registries) (o : Opening) (documents : List (List ℕ × Data)) (parent layers : OpenRegistry) (number : ℕ) (added : Added) (opened : Opened) (uris : List (Option (List ℕ))) → IsMetaWorldOr documents (Ok parent)
+    → layers ≡ (below_meta state parent.0).layers → IsAddedOr o layers (Ok added) → number ≡ length state → uris ≡ map uri_given (map (λ d. d.0) o.documents)
+    → view opened.result ≡ object_of (opened_members (number + 1) added.registry.0 uris ++ (codes "parent", whole number) ∷ faults_members added.faults)
+    → opened.registries.items ≡ Some (parent, []) ∷ Some (added.registry, []) ∷ [] → GivesOpened (IsOpenedBy (AboveMetaSchemas documents) o state) state (Ok opened)
+opened_both state o documents parent layers number added opened uris meta is added_is counted given told both =
+    let below = below_meta state parent.0 in
+    let own : parent ≡ (parent.0, []) = ap (λ ns. (parent.0, ns)) meta.1 in
+    let long : number + 1 ≡ length below.registries = ap (λ n. n + 1) counted ∙ sym (length-append state (Some ((parent.0, []), []) ∷ [])) in (
+      Ok parent.0,
+      meta.0,
+      above_added state o below layers added (state ++ opened.registries.items) (view opened.result) is added_is
+          (told ∙ ap (λ n. object_of (opened_members n added.registry.0 uris ++ (codes "parent", whole number) ∷ faults_members added.faults)) long
+          ∙ ap (λ us. object_of (opened_members (length below.registries) added.registry.0 us ++ (codes "parent", whole number) ∷ faults_members added.faults)) given
+          ∙ ap (λ n. object_of (opened_members (length below.registries) added.registry.0 (map uri_given (map (λ d. d.0) o.documents)) ++ (codes "parent", whole n) ∷ faults_members added.faults)) counted)
+          (ap (λ rs. state ++ rs) (both ∙ ap (λ p. Some (p, []) ∷ Some (added.registry, []) ∷ []) own) ∙ sym (append_assoc state (Some ((parent.0, []), []) ∷ []) (Some (added.registry, []) ∷ []))),
+    )
+
+-- ---- what is prepared
+
+pub prepared_strictly : (o : Opening) (parents : World) → o.keeps ≡ false → IsPrepared o parents (Ok (record { opening = o; members = [] }))
+prepared_strictly o parents strict = subst (λ b. IsPreparedAs b o parents (Ok (record { opening = o; members = [] }))) (sym strict) refl
+
+prepared_kept : (o : Opening) (parents : World) (m : Mended) → o.keeps ≡ true → IsMended o.draft o.limit o.documents o.remote parents (Ok m) → IsPrepared o parents (Ok (prepared_of o m))
+prepared_kept o parents m kept is = subst (λ b. IsPreparedAs b o parents (Ok (prepared_of o m))) (sym kept) (Ok m, is, refl)
+
+-- what is prepared of mended documents, for which nothing more is retrieved
+pub prepared_seen : (o : Opening) (parents : World) (m : MendedDocuments) (remote : List (List ℕ × Data)) → o.keeps ≡ true → remote ≡ [] → GivesMended (IsMended o.draft o.limit o.documents o.remote parents) (Ok m)
+    → IsPrepared o parents (Ok (record { opening = record o { documents = map given_of m.documents.items; remote = remote }; members = faults_members (Some m.faults) }))
+prepared_seen o parents m remote kept none is =
+    subst (λ r. IsPrepared o parents (Ok (record { opening = record o { documents = map given_of m.documents.items; remote = r }; members = faults_members (Some m.faults) }))) (sym none)
+    (prepared_kept o parents (mended_view m) kept is)
+
+unprepared : (o : Opening) (parents : World) (error : Data) → o.keeps ≡ true → IsMended o.draft o.limit o.documents o.remote parents (Err error) → IsPrepared o parents (Err error)
+unprepared o parents error kept is = subst (λ b. IsPreparedAs b o parents (Err error)) (sym kept) (Err error, is, refl)
+
+pub gives_unprepared : (o : Opening) (parents : World) (stop : Stop Value) → o.keeps ≡ true → GivesMended (IsMended o.draft o.limit o.documents o.remote parents) (Err stop) → GivesPrepared o parents (Err stop)
+gives_unprepared o parents Memory kept is = tt
+gives_unprepared o parents (Because value) kept is = unprepared o parents (view value) kept is
+
+-- what is opened of what was prepared, unless memory ran out
+pub added_from : (o : Opening) (layers : OpenRegistry) (p : Prepared) (added : Added) → IsPrepared o layers.0 (Ok p) → p.members ≡ faults_members added.faults → IsWorldOr p.opening layers (Ok added.registry)
+    → IsAddedOr o layers (Ok added)
+added_from o layers p added may members (world, numbers) = (p, may, (world, numbers, members))
+
+pub added_none : (o : Opening) (layers : OpenRegistry) (p : Prepared) (stop : Stop Value) → IsPrepared o layers.0 (Ok p) → IsWorldOr p.opening layers (Err stop) → IsAddedOr o layers (Err stop)
+added_none o layers p Memory may world = tt
+added_none o layers p (Because value) may (fault, world, says) = (Ok p, may, (fault, world, says))
+
+pub unadded : (o : Opening) (layers : OpenRegistry) (stop : Stop Value) → GivesPrepared o layers.0 (Err stop) → IsAddedOr o layers (Err stop)
+unadded o layers Memory may = tt
+unadded o layers (Because value) may = (Err (view value), may, refl)
 
 -- ---- what is asked
 

@@ -2,6 +2,7 @@ pub mod Codes
 pub mod State
 pub mod Rows
 pub mod Results
+pub mod Mending
 pub mod Opening
 pub mod About
 pub mod Scopes

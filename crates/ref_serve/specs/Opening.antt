@@ -1,5 +1,5 @@
 -- What `open` gives.
-use Rattle.std.specs.Prelude.{◌≡◌, ℕ, suc, List, [], ◌∷◌, ◌++◌, map, length, codes, Option, None, Some, is_some, option_and_then, unwrap_or, Result, Ok, Err, if◌then◌else◌}
+use Rattle.std.specs.Prelude.{◌≡◌, ℕ, suc, Bool, true, false, List, [], ◌∷◌, ◌++◌, map, length, codes, Option, None, Some, is_some, option_and_then, unwrap_or, Result, Ok, Err, if◌then◌else◌}
 use Rattle.std.specs.Option.{option_map_or}
 use Rattle.std.specs.Result.{result_ok}
 use Rattle.serde_json.specs.Data.{Data, null}
@@ -18,8 +18,9 @@ use Rattle.referencing.specs.MetaSchemas.{given_of_meta_schemas}
 use Rattle.ref_registries.specs.Worlds.{pending_of, IsWorld}
 use Rattle.ref_calls.specs.Objects.{object_of, list_of, texts, whole}
 use Rattle.ref_calls.specs.Errors.{fault_error, with_field}
-use Rattle.ref_calls.specs.Calls.{number_in, draft_of, documents_of, documents_at, needed_documents, under_uris}
+use Rattle.ref_calls.specs.Calls.{number_in, draft_of, documents_of, documents_at, needed_documents, under_uris, keeps_faults}
 use Rattle.ref_serve.specs.State.{OpenRegistry, Registries, registry_in}
+use Rattle.ref_serve.specs.Mending.{Mended, IsMended}
 
 -- ---- what is asked
 
@@ -29,12 +30,14 @@ pub data Parent : Type 0 where
   AboveLayers : OpenRegistry → Parent
   AboveMetaSchemas : List (List ℕ × Data) → Parent
 
--- the documents that are prepared, by which draft, what may be retrieved for them, and up to which limit
+-- the documents that are prepared, by which draft, what may be retrieved for them, and up to which limit; and whether their faults
+-- are kept
 pub record Opening : Type 0 where
   pub draft : Draft
   pub limit : ℕ
   pub documents : List (List ℕ × Data)
   pub remote : List (List ℕ × Data)
+  pub keeps : Bool
 
 -- the limit, or else 10,000
 abbrev pub limit_at : Option Data → Result ℕ Data
@@ -71,11 +74,20 @@ unfoldable pub opening_of : Registries → Data → Result (Parent × Opening) D
 opening_of state d = do
   draft ← draft_of d
   limit ← limit_at (get (codes "limit") d)
+  keeps ← keeps_faults d
   parent ← parent_at state (get (codes "parent") d)
   documents ← needed_documents (get (codes "documents") d)
   remote ← remote_of (get (codes "remote") d)
-  Ok
-      (parent, record { draft = draft; limit = limit; documents = documents; remote = remote })
+  Ok (
+    parent,
+    record {
+      draft = draft;
+      limit = limit;
+      documents = documents;
+      remote = remote;
+      keeps = keeps;
+    },
+  )
 
 -- ---- what is prepared
 
@@ -87,6 +99,28 @@ given_of_opening o parents pending =
 -- the world of the documents above layers, or the fault
 abbrev pub IsOpeningWorld : Opening → World → Result World Fault → Type 0
 IsOpeningWorld o parents world = IsWorld (given_of_opening o parents) (pending_of o.documents) world
+
+-- what is prepared of what is asked, and the members of the result that tell of it
+pub record Prepared : Type 0 where
+  pub opening : Opening
+  pub members : List (List ℕ × Data)
+
+-- where faults are kept: the documents as they are mended, for which nothing more is retrieved, and the list of the faults
+abbrev pub prepared_of : Opening → Mended → Prepared
+prepared_of o m = record {
+  opening = record o { documents = m.documents; remote = [] };
+  members = (codes "faults", list_of m.faults) ∷ [];
+}
+
+abbrev pub IsPreparedAs : Bool → Opening → World → Result Prepared Data → Type 0
+IsPreparedAs false o parents outcome = outcome ≡ Ok (record { opening = o; members = [] })
+IsPreparedAs true o parents outcome =
+    (mended : Result Mended Data) × IsMended o.draft o.limit o.documents o.remote parents mended
+    × (outcome ≡ (mended >>= λ m. Ok (prepared_of o m)))
+
+-- what is asked, or where its faults are kept, what is made of it above parents
+abbrev pub IsPrepared : Opening → World → Result Prepared Data → Type 0
+IsPrepared o parents outcome = IsPreparedAs o.keeps o parents outcome
 
 -- the world of meta-schemas, or the fault, as `Registry::from_meta_schemas` prepares them
 abbrev pub IsMetaWorld : List (List ℕ × Data) → Result World Fault → Type 0
@@ -149,11 +183,22 @@ IsOpenedIn o below state next (Ok world) outcome =
 IsOpenedIn o below state next (Err fault) outcome =
     (outcome ≡ Err (fault_error fault)) × (next ≡ state)
 
+-- with these members in the result too
+abbrev pub with_members : List (List ℕ × Data) → Below → Below
+with_members members below = record below { members = below.members ++ members }
+
 -- the same of an outcome of preparing
+abbrev pub IsOpenedFrom : Opening → Below → Registries → Registries → Result Prepared Data
+    → Result Data Data → Type 0
+IsOpenedFrom o below state next (Ok p) outcome =
+    (world : Result World Fault) × IsOpeningWorld p.opening below.layers.0 world
+    × IsOpenedIn o (with_members p.members below) state next world outcome
+IsOpenedFrom o below state next (Err error) outcome = (outcome ≡ Err error) × (next ≡ state)
+
 abbrev pub IsOpenedAbove : Opening → Below → Registries → Registries → Result Data Data → Type 0
 IsOpenedAbove o below state next outcome =
-    (world : Result World Fault) × IsOpeningWorld o below.layers.0 world
-    × IsOpenedIn o below state next world outcome
+    (prepared : Result Prepared Data) × IsPrepared o below.layers.0 prepared
+    × IsOpenedFrom o below state next prepared outcome
 
 -- above the registry of meta-schemas; or there is the error of their fault, and nothing changes
 abbrev pub IsOpenedAboveMeta : Opening → Registries → Registries → Result World Fault

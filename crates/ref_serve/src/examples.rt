@@ -24,6 +24,10 @@ ghost use Rattle.ref_serve.specs.Listings.{identifier_member, anchor_member};
 ghost use Rattle.ref_serve.specs.References.{references_of};
 ghost use Rattle.ref_serve.specs.Faults.{problem_fault};
 ghost use Rattle.ref_serve.specs.Comparisons.{move_of, moves_at, led_object, difference_data};
+ghost use Rattle.ref_paths.specs.Path.{Key};
+ghost use Rattle.ref_findings.specs.Rows.{finding_on};
+ghost use Rattle.ref_findings.specs.Findings.{NotAText};
+ghost use Rattle.ref_serve.specs.Mending.{is_in_parents, unmet_above, root_identifier, without_member, mended_tree, mended_each};
 ghost use Rattle.ref_serve.specs.Where.{known_by, tells_same, is_told_by, first_told, at_place, placed};
 ghost use Rattle.ref_serve.specs.Rows.{registry, opened, triple, from_base};
 
@@ -297,4 +301,37 @@ pub fn comparisons()
     ensures nothing_differs { difference_data (0, registry "http://a/r" empty)
         (0, registry "http://a/r" empty) None
         ≡ null }
+{}
+
+/// What is prepared where faults are kept.
+pub fn mended()
+    ensures in_a_parent { is_in_parents ((at Draft202012 "http://a/p" empty ∷ []) ∷ [])
+        (finding_on 0 [] "$ref" "p" (MissingDocument (codes "http://a/p")))
+        ≡ true }
+    ensures nowhere { is_in_parents [] (finding_on 0 [] "$ref" "p" (MissingDocument (codes "u:p")))
+        ≡ false }
+    ensures those_of_parents { unmet_above ((at Draft202012 "http://a/p" empty ∷ []) ∷ [])
+        (finding_on 0 [] "$ref" "p" (MissingDocument (codes "http://a/p"))
+        ∷ finding_on 0 [] "$ref" "q" (MissingDocument (codes "http://a/q"))
+        ∷ [])
+        ≡ finding_on 0 [] "$ref" "q" (MissingDocument (codes "http://a/q")) ∷ [] }
+    ensures of_the_root { root_identifier (finding_on 0 [] "$id" "a b" NotAText ∷ [])
+        ≡ Some (codes "$id") }
+    ensures of_another_schema { root_identifier
+        (finding_on 0 (Key (codes "not") ∷ []) "$id" "a b" NotAText ∷ [])
+        ≡ None }
+    ensures no_identifier { root_identifier (finding_on 0 [] "$ref" "a b" NotAText ∷ []) ≡ None }
+    ensures left_out { without_member (codes "$id") (two "$id" (text "a b") "not" yes)
+        ≡ one "not" yes }
+    ensures nothing_left_out { without_member (codes "id") (one "$id" (text "a b"))
+        ≡ one "$id" (text "a b") }
+    ensures an_identifier { mended_tree (finding_on 0 [] "$id" "a b" NotAText ∷ [])
+        (two "$id" (text "a b") "not" (one "$id" (text "a b")))
+        ≡ one "not" (one "$id" (text "a b")) }
+    ensures a_reference { mended_tree (finding_on 0 [] "$ref" "a b" NotAText ∷ [])
+        (two "$id" (text "u:a") "$ref" (text "a b"))
+        ≡ two "$id" (text "u:a") "$ref" null }
+    ensures each_document { mended_each ((codes "u:a", one "$ref" (text "b")) ∷ (codes "u:c", yes) ∷ [])
+        ((finding_on 0 [] "$ref" "b" NotAText ∷ []) ∷ [] ∷ [])
+        ≡ (codes "u:a", one "$ref" null) ∷ (codes "u:c", yes) ∷ [] }
 {}

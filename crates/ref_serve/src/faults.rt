@@ -30,8 +30,8 @@ use referencing::{Draft, Error, JsonPointerSegment};
 use serde_json::{Map, Value, put};
 use std::alloc::{AllocError, Global};
 
-// The sources that documents are.
-fn sources_of<'d>(
+/// The sources that documents are.
+pub fn sources_of<'d>(
     alloc: Global,
     documents: &'d [Document],
     field: &str,
@@ -135,8 +135,8 @@ fn finding_object(alloc: Global, finding: Finding<'_>) -> Result<Option<Value>, 
     Ok(Some(object))
 }
 
-// Adds the object of a finding, where it has a fault.
-fn push_finding(
+/// Adds the object of a finding, where it has a fault.
+pub fn push_finding(
     alloc: Global,
     list: &mut Vec<Value>,
     finding: Finding<'_>,

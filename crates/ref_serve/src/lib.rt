@@ -19,6 +19,7 @@ mod keeping;
 pub mod laws;
 mod listing;
 mod looking;
+mod mending;
 mod opening;
 mod place;
 mod placing;

@@ -9,17 +9,19 @@ ghost use Rattle.ref_calls.specs.Outcome.{Answers};
 ghost use Rattle.ref_calls.specs.Given.{given_of};
 ghost use Rattle.ref_serve.specs.Answering.{IsOpened, IsOpening};
 ghost use Rattle.ref_serve.specs.Opening as spec;
-ghost use Rattle.ref_serve.specs.inner.Openings.{layers_at, parent_view, opening_view, asked_view, IsWorldOr, IsMetaWorldOr, GivesOpened};
+ghost use Rattle.ref_serve.specs.inner.Mended.{world_above};
+ghost use Rattle.ref_serve.specs.inner.Openings.{layers_at, parent_view, opening_view, asked_view, faults_members, IsWorldOr, IsMetaWorldOr, IsAddedOr, GivesPrepared, GivesOpened};
 ghost use Rattle.ref_serve.specs.State.{Registries};
 
 use crate::given::{numbers_given, uris_given};
+use crate::mending::{MendedDocuments, mended};
 use crate::registry::registry_in;
 use crate::state::{Open, Slot, State};
 use ref_calls::document::{
     Document, documents_of, documents_under, members_of, needed_documents, taken, under_uris,
 };
 use ref_calls::fault::{fault_error, in_field};
-use ref_calls::field::{draft_of, number_in};
+use ref_calls::field::{draft_of, keeps_faults, number_in};
 use ref_calls::members::{Members, push_text, put_number};
 use ref_calls::yaml::with_values;
 use ref_json::Stop;
@@ -52,6 +54,21 @@ struct Wanted {
     limit: usize,
     documents: Vec<Document>,
     remote: MapRetriever,
+    keeps: bool,
+}
+
+// What is prepared of that, and the faults that are kept, where they are.
+#[derive(Drop)]
+struct Prepared {
+    wanted: Wanted,
+    faults: Option<Vec<Value>>,
+}
+
+// A registry that is opened, and these faults.
+#[derive(Drop)]
+struct Added {
+    registry: Open,
+    faults: Option<Vec<Value>>,
 }
 
 // The documents that are used where they are wanted.
@@ -130,6 +147,7 @@ fn wanted_of(alloc: Global, state: &State, tree: Value) -> Result<(Parent, Wante
 {
     let draft = draft_of(alloc, &tree)?;
     let limit = limit_of(alloc, &tree)?;
+    let keeps = keeps_faults(alloc, &tree)?;
     let mut members = members_of(alloc, tree);
     let parent = parent_of(alloc, state, &mut members)?;
     let documents = needed_documents(alloc, &mut members)?;
@@ -139,6 +157,7 @@ fn wanted_of(alloc: Global, state: &State, tree: Value) -> Result<(Parent, Wante
         limit,
         documents,
         remote,
+        keeps,
     };
     Ok((parent, wanted))
 }
@@ -174,11 +193,64 @@ fn open_of(
         limit,
         documents,
         remote,
+        ..
     } = wanted;
     match registry_from(alloc, above, documents, draft, limit, remote) {
         Ok(registry) => Ok(Open::new(registry, numbers)),
         Err(error) => Err(fault_error(alloc, &error)),
     }
+}
+
+// What is prepared above a registry, where there is one.
+fn prepared_of(
+    alloc: Global,
+    above: Option<&Registry<'_>>,
+    wanted: Wanted,
+) -> Result<Prepared, Stop<Value>>
+    ensures { GivesPrepared (opening_view wanted) (world_above above.entry) result }
+{
+    if !wanted.keeps {
+        return Ok(Prepared {
+            wanted,
+            faults: None,
+        });
+    }
+    let Wanted {
+        draft,
+        limit,
+        documents,
+        remote,
+        keeps,
+    } = wanted;
+    let made = mended(alloc, above, draft, limit, documents, &remote)?;
+    let MendedDocuments { documents, faults } = made;
+    let remote = MapRetriever::from_pairs(alloc, Vec::new(alloc))?;
+    let wanted = Wanted {
+        draft,
+        limit,
+        documents,
+        remote,
+        keeps,
+    };
+    Ok(Prepared {
+        wanted,
+        faults: Some(faults),
+    })
+}
+
+// The registry of what is prepared, with the faults that are kept.
+fn added_of(
+    alloc: Global,
+    above: Option<&'static Registry<'static>>,
+    numbers: Vec<usize>,
+    wanted: Wanted,
+) -> Result<Added, Stop<Value>>
+    ensures { IsAddedOr (opening_view wanted) (world_above above.entry, numbers.items) result }
+{
+    let prepared = prepared_of(alloc, above, wanted)?;
+    let Prepared { wanted, faults } = prepared;
+    let registry = open_of(alloc, above, numbers, wanted)?;
+    Ok(Added { registry, faults })
 }
 
 // The open registry of meta-schemas.
@@ -223,23 +295,41 @@ fn put_opened(
     put(members, alloc, "given", numbers)
 }
 
+// The faults that are kept, where they are.
+fn put_faults(
+    alloc: Global,
+    members: &mut Members,
+    faults: Option<Vec<Value>>,
+) -> Result<(), AllocError>
+    ensures { OnOk result (members_view members.new.entries
+        ≡ with_all (faults_members faults) (members_view members.old.entries)) }
+{
+    match faults {
+        Some(list) => put(members, alloc, "faults", Value::Array(list)),
+        None => Ok(()),
+    }
+}
+
 // One registry, which gets the next number.
 fn open_one(
     alloc: Global,
     number: usize,
-    added: Open,
+    added: Added,
     given: &[Option<Uri>],
 ) -> Result<Opened, AllocError>
     ensures result { IfOk result
         (λ opened. view opened.result
         ≡ object_of
-        (spec.opened_members number added.0 (map (option_map (λ u. u)) given.now))) }
-    ensures one { IfOk result (λ opened. opened.registries.items ≡ Some (added, []) ∷ []) }
+        (spec.opened_members number added.registry.0 (map (option_map (λ u. u)) given.now)
+        ++ faults_members added.faults)) }
+    ensures one { IfOk result (λ opened. opened.registries.items ≡ Some (added.registry, []) ∷ []) }
 {
+    let Added { registry, faults } = added;
     let mut members = Map::new(alloc);
-    put_opened(alloc, &mut members, number, &added, given)?;
+    put_opened(alloc, &mut members, number, &registry, given)?;
+    put_faults(alloc, &mut members, faults)?;
     let mut registries = Vec::with_capacity(alloc, 1)?;
-    registries.push(Some(Slot::new(alloc, added)))?;
+    registries.push(Some(Slot::new(alloc, registry)))?;
     Ok(Opened {
         result: Value::Object(members),
         registries,
@@ -251,24 +341,26 @@ fn open_both(
     alloc: Global,
     number: usize,
     parent: Open,
-    added: Open,
+    added: Added,
     given: &[Option<Uri>],
 ) -> Result<Opened, AllocError>
     requires next { number + 1 < 2 ^ 64 }
     ensures result { IfOk result
         (λ opened. view opened.result
         ≡ object_of
-        (spec.opened_members (number + 1) added.0 (map (option_map (λ u. u)) given.now)
-        ++ (codes "parent", whole number) ∷ [])) }
+        (spec.opened_members (number + 1) added.registry.0 (map (option_map (λ u. u)) given.now)
+        ++ (codes "parent", whole number) ∷ faults_members added.faults)) }
     ensures both { IfOk result
-        (λ opened. opened.registries.items ≡ Some (parent, []) ∷ Some (added, []) ∷ []) }
+        (λ opened. opened.registries.items ≡ Some (parent, []) ∷ Some (added.registry, []) ∷ []) }
 {
+    let Added { registry, faults } = added;
     let mut members = Map::new(alloc);
-    put_opened(alloc, &mut members, number + 1, &added, given)?;
+    put_opened(alloc, &mut members, number + 1, &registry, given)?;
     put_number(alloc, &mut members, "parent", number)?;
+    put_faults(alloc, &mut members, faults)?;
     let mut registries = Vec::with_capacity(alloc, 2)?;
     registries.push(Some(Slot::new(alloc, parent)))?;
-    registries.push(Some(Slot::new(alloc, added)))?;
+    registries.push(Some(Slot::new(alloc, registry)))?;
     Ok(Opened {
         result: Value::Object(members),
         registries,
@@ -291,7 +383,7 @@ fn open_above(
     let number = state.len();
     let given = uris_given(alloc, wanted.documents.as_slice())?;
     let above = lent_first(alloc, state, numbers.as_slice())?;
-    let added = open_of(alloc, above, numbers, wanted)?;
+    let added = added_of(alloc, above, numbers, wanted)?;
     Ok(open_one(alloc, number, added, given.as_slice())?)
 }
 
@@ -312,7 +404,7 @@ fn open_above_meta_schemas(
     let mut parent = open_meta_schemas(alloc, documents)?;
     let numbers = numbers_of(alloc, number, &parent)?;
     let registry = parent.lend(alloc)?;
-    let added = open_of(alloc, Some(registry), numbers, wanted)?;
+    let added = added_of(alloc, Some(registry), numbers, wanted)?;
     Ok(open_both(alloc, number, parent, added, given.as_slice())?)
 }
 

@@ -1,5 +1,5 @@
 -- What is seen of a call of `open`.
-use Rattle.std.specs.Prelude.{◌≡◌, ℕ, List, [], ◌++◌, map, codes, Option, option_map, option_and_then, slice_get, unwrap_or, Result, Ok, Err}
+use Rattle.std.specs.Prelude.{◌≡◌, ℕ, List, [], ◌∷◌, ◌++◌, map, codes, Option, None, Some, option_map, option_and_then, slice_get, unwrap_or, Result, Ok, Err}
 use Rattle.serde_json.specs.Data.{Data}
 use Rattle.serde_json.specs.View.{view}
 use Rattle.serde_json.specs.declared.value.Value.{Value}
@@ -10,10 +10,15 @@ use Rattle.ref_json.specs.declared.stop.Stop.{Stop}
 use Rattle.ref_json.specs.declared.stop.Stop.TheVariants.{Memory, Because}
 use Rattle.ref_calls.specs.Errors.{fault_error, with_field}
 use Rattle.ref_calls.specs.Given.{given_of}
+use Rattle.ref_calls.specs.Objects.{list_of}
 use Rattle.ref_serve.specs.declared.opening.Parent.{Parent}
 use Rattle.ref_serve.specs.declared.opening.Parent.TheVariants.{Layers, MetaSchemas}
 use Rattle.ref_serve.specs.declared.opening.Wanted.{Wanted}
 use Rattle.ref_serve.specs.declared.opening.Opened.{Opened}
+use Rattle.ref_serve.specs.declared.opening.Prepared.{Prepared}
+use Rattle.ref_serve.specs.declared.opening.Added.{Added}
+use Rattle.std.specs.declared.vec.Vec.{Vec}
+use Rattle.std.specs.declared.alloc.Global.{Global}
 use Rattle.ref_serve.specs.State.{OpenRegistry, Registries, open_at}
 use Rattle.ref_serve.specs.Opening as spec
 
@@ -37,10 +42,27 @@ opening_view w =
       limit = w.limit;
       documents = map given_of w.documents.items;
       remote = trees_of w.remote;
+      keeps = w.keeps;
     }
 
 abbrev pub asked_view : Registries → Parent × Wanted → spec.Parent × spec.Opening
 asked_view state asked = (parent_view state asked.0, opening_view asked.1)
+
+-- the members of the result that tell of faults, where they are kept
+abbrev pub faults_members : Option (Vec Value Global) → List (List ℕ × Data)
+faults_members None = []
+faults_members (Some faults) = (codes "faults", list_of (map view faults.items)) ∷ []
+
+-- what is prepared of what is asked
+abbrev pub prepared_view : Prepared → spec.Prepared
+prepared_view p =
+    record { opening = opening_view p.wanted; members = faults_members p.faults }
+
+-- it may be prepared above parents, unless memory ran out
+abbrev pub GivesPrepared : spec.Opening → World → Result Prepared (Stop Value) → Type 0
+GivesPrepared o parents (Ok p) = spec.IsPrepared o parents (Ok (prepared_view p))
+GivesPrepared o parents (Err Memory) = Unit {0}
+GivesPrepared o parents (Err (Because value)) = spec.IsPrepared o parents (Err (view value))
 
 -- what is opened, and the registries with it after the others, unless memory ran out
 abbrev pub GivesOpened : (Registries → Result Data Data → Type 0) → Registries
@@ -56,6 +78,28 @@ IsWorldOr o layers (Ok added) =
 IsWorldOr o layers (Err Memory) = Unit {0}
 IsWorldOr o layers (Err (Because value)) =
     (fault : Fault) × spec.IsOpeningWorld o layers.0 (Err fault) × (view value ≡ fault_error fault)
+
+-- an open registry of what was prepared, with its faults
+abbrev pub IsAddedFrom : OpenRegistry → Added → spec.Prepared → Type 0
+IsAddedFrom layers added p =
+    spec.IsOpeningWorld p.opening layers.0 (Ok added.registry.0) × (added.registry.1 ≡ layers.1)
+    × (p.members ≡ faults_members added.faults)
+
+-- the error of what can't be prepared, or its fault's
+abbrev pub IsErrorFrom : OpenRegistry → Data → Result spec.Prepared Data → Type 0
+IsErrorFrom layers error (Ok p) =
+    (fault : Fault) × spec.IsOpeningWorld p.opening layers.0 (Err fault)
+    × (error ≡ fault_error fault)
+IsErrorFrom layers error (Err other) = error ≡ other
+
+-- what is asked is prepared and opened above layers, unless memory ran out
+abbrev pub IsAddedOr : spec.Opening → OpenRegistry → Result Added (Stop Value) → Type 0
+IsAddedOr o layers (Ok added) =
+    (p : spec.Prepared) × spec.IsPrepared o layers.0 (Ok p) × IsAddedFrom layers added p
+IsAddedOr o layers (Err Memory) = Unit {0}
+IsAddedOr o layers (Err (Because value)) =
+    (prepared : Result spec.Prepared Data) × spec.IsPrepared o layers.0 prepared
+    × IsErrorFrom layers (view value) prepared
 
 -- the same of meta-schemas
 abbrev pub IsMetaWorldOr : List (List ℕ × Data) → Result OpenRegistry (Stop Value) → Type 0
