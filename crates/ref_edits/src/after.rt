@@ -1,4 +1,9 @@
 //! Documents as they are after a change.
+ghost use Rattle.std.specs.Prelude.{◌≡◌, option_map, IfOk};
+ghost use Rattle.serde_json.specs.Read.{read};
+ghost use Rattle.serde_json.specs.View.{view};
+ghost use Rattle.ref_positions.specs.declared.format.Format.TheVariants.{Json};
+
 use crate::given::{Given, Written};
 use crate::plan::{Refusal, Unmade};
 use crate::splicing::Edit;
@@ -123,9 +128,13 @@ fn set_value(values: &mut Vec<Option<Value>>, number: usize, value: Value) {
 }
 
 /// The value of a text.
-pub(crate) fn value_of(alloc: Global, written: Written<'_>) -> Result<Option<Value>, AllocError> {
+pub(crate) fn value_of(alloc: Global, written: Written<'_>) -> Result<Option<Value>, AllocError>
+    ensures json { IfOk result (λ v. written.entry.format ≡ Json
+        → option_map view v ≡ read written.entry.text.now) }
+{
     let text = String::from_str(alloc, written.text)?;
-    let DocumentText { value, .. } = DocumentText::new(alloc, written.format, text)?;
+    let read = DocumentText::new(alloc, written.format, text)?;
+    let DocumentText { value, .. } = read;
     match value {
         Ok(value) => Ok(Some(value)),
         Err(fault) => {

@@ -1,4 +1,7 @@
-//! What differs once a change is made.
+//! What differs once a change is made. Read `specs/Checked.antt` first, upon `Changed.antt`.
+ghost use Rattle.std.specs.Prelude.{◌≡◌, true, None, All, IfOk};
+ghost use Rattle.ref_edits.specs.Checked.{IsEditRead};
+
 use crate::after::{registry_after, unlike, value_of, values_of};
 use crate::given::{Given, Written};
 use crate::plan::{Plan, Unmade};
@@ -35,7 +38,10 @@ pub fn difference_of(
     given: &Given<'_, '_, '_, '_>,
     plan: &Plan,
     edits: &[Edit],
-) -> Result<Option<Told>, Unmade> {
+) -> Result<Option<Told>, Unmade>
+    ensures texts { IfOk result
+        (λ told. All (IsEditRead given.now.texts.now plan.now.changes.items) edits.now) }
+{
     for edit in edits {
         if !is_as_planned(alloc, given, plan, edit)? {
             return Err(unlike(edit));
@@ -117,7 +123,10 @@ fn is_as_planned(
     given: &Given<'_, '_, '_, '_>,
     plan: &Plan,
     edit: &Edit,
-) -> Result<bool, AllocError> {
+) -> Result<bool, AllocError>
+    ensures { IfOk result
+        (λ is. is ≡ true → IsEditRead given.now.texts.now plan.now.changes.items edit.now) }
+{
     let Some(written) = given.text(edit.document) else {
         return Ok(false);
     };

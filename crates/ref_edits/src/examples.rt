@@ -1,5 +1,7 @@
 //! Rows of the definitions. Each function is empty: its contract states rows, and the check computes them.
-ghost use Rattle.std.specs.Prelude.{◌≡◌, [], codes, Some, None, true, false};
+ghost use Rattle.std.specs.Prelude.{◌≡◌, ◌∷◌, [], codes, Some, None, true, false};
+ghost use Rattle.serde_json.specs.Data.{null, no_members, member};
+ghost use Rattle.ref_edits.specs.Changed.{below_key, count, keys_with};
 ghost use Rattle.ref_edits.specs.Tokens.{depth_of, token_for, is_within};
 ghost use Rattle.ref_edits.specs.Names.{is_component_name, is_anchor_name, names_definitions};
 
@@ -28,4 +30,13 @@ pub fn names()
     ensures no_anchor { is_anchor_name [] ≡ false }
     ensures definitions { names_definitions (codes "definitions") ≡ true }
     ensures properties { names_definitions (codes "properties") ≡ false }
+{}
+
+/// Pointers of members, and the new keys of an object.
+pub fn trees()
+    ensures member { below_key (codes "/a") (codes "b/c") ≡ codes "/a/b~1c" }
+    ensures none { count no_members ≡ 0 }
+    ensures two { count (member (codes "a") null (member (codes "b") null no_members)) ≡ 2 }
+    ensures kept { keys_with (codes "a" ∷ []) None ≡ codes "a" ∷ [] }
+    ensures new { keys_with (codes "a" ∷ []) (Some (codes "b")) ≡ codes "a" ∷ codes "b" ∷ [] }
 {}

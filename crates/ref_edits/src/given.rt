@@ -1,4 +1,7 @@
 //! The documents that are changed.
+ghost use Rattle.std.specs.Prelude.{◌≡◌};
+ghost use Rattle.ref_edits.specs.Checked.{text_at};
+
 use ref_draft::Draft;
 use ref_further::Survey;
 use ref_positions::Format;
@@ -28,7 +31,9 @@ pub struct Given<'g, 'w, 'd, 't> {
 
 impl<'t> Given<'_, '_, '_, 't> {
     /// The text of the document with a number, where it can be changed.
-    pub fn text(&self, document: usize) -> Option<Written<'t>> {
+    pub fn text(&self, document: usize) -> Option<Written<'t>>
+        ensures value { result ≡ text_at self.now.texts.now document }
+    {
         self.texts.get(document).copied().flatten()
     }
 }
