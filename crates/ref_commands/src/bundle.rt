@@ -45,7 +45,8 @@ pub fn bundle<'a>(
     status
 }
 
-// The bundle of what was read. Where documents have to be named by their identifiers for it, they are.
+// The bundle of what was read. Where documents have to be named by their identifiers for it, they are; and where that bundle is
+// written, each text that is another one in it is said.
 fn bundle_named(
     rt: &HostRuntime,
     console: &mut Console<'_>,
@@ -59,9 +60,14 @@ fn bundle_named(
     if let Some(status) = bundle_opened(rt, console, given, &*opened, may_name)? {
         return Ok(status);
     }
-    name_by_identifiers(rt, opened)?;
-    let status = bundle_opened(rt, console, given, &*opened, false)?;
-    Ok(status.unwrap_or(1))
+    let lines = name_by_identifiers(rt, opened)?;
+    let status = bundle_opened(rt, console, given, &*opened, false)?.unwrap_or(1);
+    if status == 0 {
+        for line in &lines {
+            let _ = eprintln!(rt; "{line}");
+        }
+    }
+    Ok(status)
 }
 
 // The status of the bundle of what was read: none where documents may be named by their identifiers, and have to be.

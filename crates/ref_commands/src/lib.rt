@@ -18,6 +18,7 @@ mod members;
 mod message;
 pub mod moving;
 mod opened;
+mod outcome;
 mod pieces;
 pub mod places;
 mod printed;

@@ -5,6 +5,7 @@ use crate::left_out::{say_broken, say_leniencies, say_unplaced};
 use crate::listed::{Form, Listing, Statistics};
 use crate::message::message_at;
 use crate::opened::{Opened, open_given};
+use crate::outcome::{Count, Nothing, lint_status, nothing_of, status_of};
 use crate::printed::print_configured;
 use crate::unused_silences::{is_told, silence_message};
 use clap::ArgMatches;
@@ -18,26 +19,6 @@ use ref_workspace::{Describer, Document, Finding, RULES, UnusedSilence};
 use std::alloc::{AllocError, Global};
 use std::io;
 use std::time::Instant;
-
-// How many references and findings there are.
-#[derive(Clone, Copy, Drop)]
-struct Count {
-    descriptions: usize,
-    // How many places the descriptions have, and how many the other documents.
-    places: usize,
-    schema_places: usize,
-    references: usize,
-    // How many texts are under a `$ref` that is in no place.
-    unplaced: usize,
-    // How many findings a comment silences, and how many are known.
-    silenced: usize,
-    known: usize,
-    errors: usize,
-    warnings: usize,
-    notes: usize,
-    // How many files are neither JSON nor YAML, are descriptions whose references aren't checked, or have a root that is no schema.
-    unread: usize,
-}
 
 /// Lists what is wrong with the references of files. The status is 0 where nothing is, 1 where something is or nothing was looked
 /// at, and 2 where a path couldn't be read.
@@ -86,13 +67,10 @@ pub fn lint<'a>(
         summary(rt, files, (count, fixed), passed)?;
         print_time(rt, begin);
     }
-    let is_looked_at = count.is_looked_at(files);
-    if !is_looked_at && !has_failed {
+    if !count.is_looked_at(files) && !has_failed {
         say_nothing(rt, files, passed);
     }
-    let is_fine = count.errors == 0
-        && count.warnings <= listing.most_warnings.unwrap_or(usize::MAX);
-    Ok(status_of(is_fine && is_looked_at, has_failed))
+    Ok(lint_status(count, files, listing.most_warnings, has_failed))
 }
 
 // The count, or nothing where standard output is closed.
@@ -104,33 +82,21 @@ fn count_of(count: Result<Count, Stop>) -> Result<Option<Count>, Stop> {
     }
 }
 
-fn status_of(is_fine: bool, has_failed: bool) -> u8 {
-    if has_failed {
-        return 2;
-    }
-    if is_fine { 0 } else { 1 }
-}
-
 // Says that no reference was looked at, which is no all-clear.
 fn say_nothing(rt: &HostRuntime, files: usize, (passed, ignored): (usize, usize)) {
-    if files == 0 && passed > 0 {
-        say(
-            rt,
-            "each file was passed over: of YAML below a folder those are read that have $schema, $id, id, openapi or swagger at their roots; name a file to read it, or read all by --yaml",
-        );
-    } else if files == 0 && ignored > 0 {
-        say(
-            rt,
-            "no file was found but what .gitignore leaves out: name a file to read it, or read all by --no-ignore",
-        );
-    } else if files == 0 {
-        say(
-            rt,
-            "no file was found: a path is a file, or a folder with files whose names end in .json, .yaml or .yml",
-        );
-    } else {
-        say(rt, "nothing was looked at in any of these files");
-    }
+    let why = match nothing_of(files, passed, ignored) {
+        Nothing::PassedOver => {
+            "each file was passed over: of YAML below a folder those are read that have $schema, $id, id, openapi or swagger at their roots; name a file to read it, or read all by --yaml"
+        }
+        Nothing::Ignored => {
+            "no file was found but what .gitignore leaves out: name a file to read it, or read all by --no-ignore"
+        }
+        Nothing::NoFile => {
+            "no file was found: a path is a file, or a folder with files whose names end in .json, .yaml or .yml"
+        }
+        Nothing::Within => "nothing was looked at in any of these files",
+    };
+    say(rt, why);
 }
 
 // How many documents have a root that is neither an object nor a boolean, and so no schema.
@@ -482,21 +448,6 @@ impl Tally<'_> {
         count.silenced = self.known.silenced;
         count.known = self.known.passed;
         count
-    }
-}
-
-impl Count {
-    // Whether something in so many files was looked at.
-    fn is_looked_at(self, files: usize) -> bool {
-        files > self.unread || self.references > 0
-    }
-
-    fn add(&mut self, level: Level) {
-        match level {
-            Level::Error => self.errors = self.errors.saturating_add(1),
-            Level::Warning => self.warnings = self.warnings.saturating_add(1),
-            Level::Note => self.notes = self.notes.saturating_add(1),
-        }
     }
 }
 

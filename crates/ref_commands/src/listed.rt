@@ -1,4 +1,5 @@
 //! What of findings is listed, and how.
+use crate::outcome::is_colored;
 use clap::ArgMatches;
 use ref_command_line::{Configured, Stop};
 use ref_levels::{Levels, is_listed, least_of};
@@ -118,12 +119,17 @@ fn form_of(rt: &HostRuntime, given: &ArgMatches<'_>) -> Form {
 
 // Colours are there where they are asked for, or on a terminal that has them.
 fn color_of(rt: &HostRuntime, given: &ArgMatches<'_>) -> Color {
-    let is_on = match given.get_str("color") {
-        Some("always") => true,
-        Some("never") => false,
-        _ => rt.stdout().is_terminal() && !is_set(rt, "NO_COLOR") && !is_dumb(rt),
+    let choice = match given.get_str("color") {
+        Some("always") => Some(true),
+        Some("never") => Some(false),
+        _ => None,
     };
-    if is_on { Color::Ansi } else { Color::None }
+    let is_terminal = rt.stdout().is_terminal();
+    if is_colored(choice, is_terminal, is_set(rt, "NO_COLOR"), is_dumb(rt)) {
+        Color::Ansi
+    } else {
+        Color::None
+    }
 }
 
 // Whether a variable of the environment is there and is not empty.

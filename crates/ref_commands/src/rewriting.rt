@@ -5,18 +5,31 @@ use ref_command_line::Stop;
 use ref_edits::{Edit, Unmade, identified_references};
 use ref_files::DocumentText;
 use ref_messages::Plain;
+use ref_positions::Position;
 use ref_workspace::World;
 use ref_workspace::world::world_of;
 use std::alloc::{AllocError, Global};
 
-/// Names documents by their identifiers where the first one, or what it needs, refers to them by the URIs of their files, and says each text that becomes another one: so that a
-/// bundle, in which a document has its identifier alone, can be made. Where a reference would lead elsewhere, or a text can't be changed, all stays as it is. Nothing is
-/// written.
-pub(crate) fn name_by_identifiers(rt: &HostRuntime, opened: &mut Opened<'_>) -> Result<(), Stop> {
-    for (source, text) in texts_after(rt, &*opened)? {
+/// Names documents by their identifiers where the first one, or what it needs, refers to them by the URIs of their files: so
+/// that a bundle, in which a document has its identifier alone, can be made. Answers a line for each text that becomes another
+/// one, to be said once the bundle is written. Where a reference would lead elsewhere, or a text can't be changed, all stays as
+/// it is, and there is no line. Nothing is written, and nothing is said.
+pub(crate) fn name_by_identifiers(
+    rt: &HostRuntime,
+    opened: &mut Opened<'_>,
+) -> Result<Vec<String>, Stop> {
+    let Renamed { texts, lines } = named(rt, &*opened)?;
+    for (source, text) in texts {
         replace(rt.alloc(), opened, source, text)?;
     }
-    Ok(())
+    Ok(lines)
+}
+
+// The texts of documents after, each with the number of what was read, and a line for each text in them that is another one.
+#[derive(Drop)]
+struct Renamed {
+    texts: Vec<(usize, String)>,
+    lines: Vec<String>,
 }
 
 fn replace(
@@ -31,29 +44,31 @@ fn replace(
     Ok(())
 }
 
-// The texts of documents after, with the numbers of what was read.
-fn texts_after(rt: &HostRuntime, opened: &Opened<'_>) -> Result<Vec<(usize, String)>, Stop> {
+fn named(rt: &HostRuntime, opened: &Opened<'_>) -> Result<Renamed, Stop> {
     let alloc = rt.alloc();
     let trees = opened.workspace.mended(alloc)?;
     let world = world_of(alloc, &opened.workspace, trees.as_slice());
     match world {
-        Ok(world) => texts_in(rt, opened, &world),
+        Ok(world) => named_in(rt, opened, &world),
         Err(error) => {
             let stop = error.is_memory();
             drop(error);
             if stop {
                 return Err(Stop::Memory);
             }
-            Ok(Vec::new(alloc))
+            Ok(nothing(alloc))
         }
     }
 }
 
-fn texts_in(
-    rt: &HostRuntime,
-    opened: &Opened<'_>,
-    world: &World<'_>,
-) -> Result<Vec<(usize, String)>, Stop> {
+fn nothing(alloc: Global) -> Renamed {
+    Renamed {
+        texts: Vec::new(alloc),
+        lines: Vec::new(alloc),
+    }
+}
+
+fn named_in(rt: &HostRuntime, opened: &Opened<'_>, world: &World<'_>) -> Result<Renamed, Stop> {
     let alloc = rt.alloc();
     let texts = texts_of(alloc, opened, world, true)?;
     let survey = surveyed(alloc, world)?;
@@ -64,15 +79,15 @@ fn texts_in(
         survey: &survey,
         texts: texts.as_slice(),
     };
-    let mut after = Vec::new(alloc);
+    let mut after = nothing(alloc);
     let Some(made) = made_by(&editing)? else {
         return Ok(after);
     };
     for edit in made.edits {
         if let Some(source) = world.sources.get(edit.document) {
-            say_parts(&editing, &edit);
+            push_lines(&mut after.lines, &editing, &edit)?;
             let Edit { text, .. } = edit;
-            push(&mut after, *source, text)?;
+            push(&mut after.texts, *source, text)?;
         }
     }
     Ok(after)
@@ -109,29 +124,28 @@ fn checked_by(editing: &Editing<'_, '_, '_, '_, '_, '_, '_>) -> Result<Option<Ma
     }
 }
 
-// Says what is replaced in the text of a document, each with its line and column.
-fn say_parts(editing: &Editing<'_, '_, '_, '_, '_, '_, '_>, edit: &Edit) {
+// Adds a line for each text that is replaced in a document's, with its line and column.
+fn push_lines(
+    lines: &mut Vec<String>,
+    editing: &Editing<'_, '_, '_, '_, '_, '_, '_>,
+    edit: &Edit,
+) -> Result<(), AllocError> {
     let Some(Some(written)) = editing.texts.get(edit.document) else {
-        return;
+        return Ok(());
     };
+    let alloc = editing.rt.alloc();
     let name = editing.name(edit.document);
-    let (mut line, mut column, mut passed): (usize, usize, usize) = (1, 1, 0);
+    let mut at = Position::start(written.text);
     for part in &edit.parts {
-        for c in written.text.get(passed..part.start).unwrap_or("").chars() {
-            if c == '\n' {
-                line = line.saturating_add(1);
-                column = 1;
-            } else {
-                column = column.saturating_add(1);
-            }
-        }
-        passed = part.start;
+        at = at.moved_to(part.start);
+        let (line, column) = (at.line(), at.column());
         let old = written.text.get(part.start..part.end).unwrap_or("");
-        let _ = eprintln!(editing.rt;
+        lines.push(format!(in alloc;
             "{}:{line}:{column}: {} is {} in the bundle",
             Plain(name),
             Plain(old),
             Plain(part.text.as_str())
-        );
+        )?)?;
     }
+    Ok(())
 }

@@ -121,7 +121,7 @@ impl<'a> Position<'a> {
     }
 
     /// The place at an offset from here on, or the end of the text. It costs a step for each byte between.
-    pub(crate) fn moved_to(self, offset: usize) -> Position<'a>
+    pub fn moved_to(self, offset: usize) -> Position<'a>
         ensures text { result.text.now ≡ self.entry.text.now }
         ensures offset { self.entry.offset ≤ offset → offset ≤ length self.entry.text.now
             → result.offset ≡ offset }
