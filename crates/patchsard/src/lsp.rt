@@ -2,6 +2,7 @@
 use clap::ArgMatches;
 use ref_command_line::options::{base_of, draft_of, list_of, maps};
 use ref_command_line::{Configured, Stop, find_configuration, find_configuration_from, say};
+use ref_configuration::Configuration;
 use ref_files::Maps;
 use ref_levels::{Levels, least_of};
 use ref_lsp::{Desk, Ending, LeftOut, Rules, Session, Settings, serve};
@@ -15,35 +16,88 @@ pub fn serve_editor(rt: &HostRuntime, given: &ArgMatches<'_>) -> Result<u8, Stop
     let (source, sink) = (Input::new(rt.stdin()), Output::new(rt.stdout()));
     let mut wire = Wire::new(rt.alloc(), source, sink)?;
     let mut session = Session::new(rt.alloc());
-    let mut configured = find_configuration(rt, given)?;
+    let mut configured = configured_first(rt, given)?;
     for _ in 0..u64::MAX {
         match served(rt, given, &configured, &mut session, &mut wire)? {
-            Ending::Configure => {
-                if let Some(other) = configured_anew(rt, given, &session)? {
-                    configured = other;
-                }
-            }
-            ending => return status_of(rt, ending),
+            Next::Configured(other) => configured = other,
+            Next::Ended(ending) => return status_of(rt, ending),
         }
     }
     Err(Stop::Memory)
 }
 
-// Serves by a configuration.
+// How serving by a configuration ended.
+enum Next {
+    // Another configuration counts from then on.
+    Configured(Configured),
+    // The session ended.
+    Ended(Ending),
+}
+
+// Serves by a configuration until another one counts or the session ends. What was made of it stays while what is read anew is at fault, also where it couldn't be made once more.
 fn served<R: Source + Drop, W: Sink + Drop>(
     rt: &HostRuntime,
     given: &ArgMatches<'_>,
     configured: &Configured,
     session: &mut Session,
     wire: &mut Wire<R, W>,
-) -> Result<Ending, Stop> {
+) -> Result<Next, Stop> {
     let maps = maps_of(rt, given, configured)?;
-    let rules = Rules {
+    let mut desk = Desk::new(rt, settings_of(rt, given, configured)?, maps);
+    for _ in 0..u64::MAX {
+        let rules = rules_of(rt, given, configured)?;
+        match serve(&mut desk, rules, session, wire) {
+            Ending::Configure => {
+                if let Some(other) = configured_anew(rt, given, session)? {
+                    return Ok(Next::Configured(other));
+                }
+            }
+            ending => return Ok(Next::Ended(ending)),
+        }
+    }
+    Err(Stop::Memory)
+}
+
+// The levels of rules.
+fn rules_of(
+    rt: &HostRuntime,
+    given: &ArgMatches<'_>,
+    configured: &Configured,
+) -> Result<Rules, Stop> {
+    Ok(Rules {
         levels: Levels::of(rt, given, configured)?,
         least: least_of(given, configured),
-    };
-    let mut desk = Desk::new(rt, settings_of(rt, given, configured)?, maps);
-    Ok(serve(&mut desk, rules, session, wire))
+    })
+}
+
+// The configuration that counts before an editor names its folder: nothing where the file that was found is at fault, which is said on standard error, so that it can be mended
+// while the server runs. One that the command line names has to be sound.
+fn configured_first(rt: &HostRuntime, given: &ArgMatches<'_>) -> Result<Configured, Stop> {
+    if given.get_str("config").is_some() {
+        return find_configuration(rt, given);
+    }
+    match find_configuration(rt, given) {
+        Ok(configured) => {
+            if is_sound(rt, given, &configured)? {
+                return Ok(configured);
+            }
+            drop(configured);
+            Ok(unconfigured(rt.alloc()))
+        }
+        Err(Stop::Reported) => Ok(unconfigured(rt.alloc())),
+        Err(stop) => Err(stop),
+    }
+}
+
+fn unconfigured(alloc: Global) -> Configured {
+    Configured {
+        configuration: Configuration::new(alloc),
+        name: None,
+        folder: String::new(alloc),
+        paths: Vec::new(alloc),
+        with: Vec::new(alloc),
+        maps: Vec::new(alloc),
+    }
 }
 
 // The folders from which documents are read.

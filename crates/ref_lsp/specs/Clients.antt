@@ -1,8 +1,8 @@
 -- What a client says of itself and of its texts (Language Server Protocol 3.17).
-use Rattle.std.specs.Prelude.{ℕ, List, Bool, false, not, ◌||◌, Option, Some, None, option_and_then, codes, bytes_eq, if◌then◌else◌}
+use Rattle.std.specs.Prelude.{ℕ, List, Bool, false, not, ◌||◌, Option, Some, None, option_and_then, is_some, codes, bytes_eq, if◌then◌else◌}
 use Rattle.std.specs.Option.{option_map_or}
 use Rattle.serde_json.specs.Data.{Data, Items, no_items, item}
-use Rattle.serde_json.specs.Find.{pointer, as_array, as_bool, as_str}
+use Rattle.serde_json.specs.Find.{get, pointer, as_array, as_bool, as_object, as_str}
 use Rattle.ref_positions.specs.declared.format.Format.{Format}
 use Rattle.ref_positions.specs.declared.format.Format.TheVariants.{Json, Yaml}
 use Rattle.ref_positions.specs.Formats.{has_end}
@@ -53,6 +53,30 @@ abbrev pub takes_plain : Data → Bool
 takes_plain params =
     option_map_or (λ formats. not (has_markdown formats))
     (option_and_then as_array (pointer (codes "/capabilities/textDocument/hover/contentFormat") params)) false
+
+-- a client says what it can in an object, as it must ("InitializeParams"; an array is none)
+abbrev pub has_capabilities : Data → Bool
+has_capabilities params = is_some (option_and_then as_object (get (codes "capabilities") params))
+
+-- a client takes, with what is wrong, places that have to do with it ("PublishDiagnosticsClientCapabilities")
+abbrev pub takes_related : Data → Bool
+takes_related params =
+    is_said (codes "/capabilities/textDocument/publishDiagnostics/relatedInformation") params
+
+-- a client takes changes as literals; one that doesn't takes commands alone ("CodeActionClientCapabilities")
+abbrev pub takes_actions : Data → Bool
+takes_actions params =
+    is_some
+    (option_and_then as_object
+    (pointer (codes "/capabilities/textDocument/codeAction/codeActionLiteralSupport") params))
+
+-- a request for changes has its context, with diagnostics ("CodeActionContext")
+abbrev pub has_diagnostics : Data → Bool
+has_diagnostics params = is_some (option_and_then as_array (pointer (codes "/context/diagnostics") params))
+
+-- whether a place itself is asked for with its references: nothing where the request has no context that says it ("ReferenceContext")
+abbrev pub with_declaration : Data → Option Bool
+with_declaration params = option_and_then as_bool (pointer (codes "/context/includeDeclaration") params)
 
 -- how a text is written, by its path and by what the client calls its language ("TextDocumentItem"): YAML where one says so, else JSON where
 -- one says that

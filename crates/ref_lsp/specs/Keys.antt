@@ -1,18 +1,19 @@
 -- Keys on the way to a value, and which components a reference at a path needs.
-use Rattle.std.specs.Prelude.{ℕ, ◌-◌, ◌==◌, ◌&&◌, ◌||◌, List, [], ◌∷◌, map, take, Bool, false, Option, Some, None, is_some, bytes_eq, codes, length, nat_lt, slice_get, string_bytes, if◌then◌else◌}
+use Rattle.std.specs.Prelude.{ℕ, ◌-◌, ◌==◌, ◌&&◌, ◌||◌, List, [], ◌∷◌, map, not, take, Bool, true, false, Option, Some, None, is_some, bytes_eq, codes, length, nat_lt, slice_get, string_bytes, if◌then◌else◌}
 use Rattle.std.specs.List.{list_any}
 use Rattle.std.specs.Option.{option_map_or}
 use Rattle.serde_json.specs.Data.{Data}
 use Rattle.serde_json.specs.Find.{as_bool, as_str}
+use Rattle.ref_draft.specs.declared.draft.Draft.{Draft}
+use Rattle.ref_draft.specs.declared.draft.Draft.TheVariants.{Draft201909}
+use Rattle.ref_descriptions.specs.References.{has_dynamic}
 use Rattle.ref_positions.specs.declared.format.Format.{Format}
 use Rattle.ref_positions.specs.declared.format.Format.TheVariants.{Json, Yaml}
 use Rattle.ref_positions.specs.Formats.{has_end}
 use Rattle.ref_positions.specs.declared.part.Step.{Step}
 use Rattle.ref_positions.specs.declared.part.Step.TheVariants.{Member, Item}
 use Rattle.ref_files.specs.Plain.{folder_of, last_name}
-
-abbrev pub is_one_of : List (List ℕ) → List ℕ → Bool
-is_one_of names name = list_any (λ own. bytes_eq own name) names
+use Rattle.ref_workspace.specs.Referring.{is_one_of, is_referring, is_data, has_names}
 
 -- the key of a step to a member
 abbrev pub key_of : Step → Option (List ℕ)
@@ -37,6 +38,48 @@ abbrev pub is_mapped : List Step → Bool
 is_mapped path =
     is_key (codes "discriminator") (key_before 2 path) && is_key (codes "mapping") (key_before 1 path)
     && is_some (key_before 0 path)
+
+abbrev pub is_item : List Step → Bool
+is_item (Item index ∷ steps) = true
+is_item other = false
+
+-- nothing on the way after a step refers to something, where its key is a keyword: its value is data, or a list of examples
+abbrev pub is_passed : Step → List Step → Bool
+is_passed step rest =
+    option_map_or is_data (key_of step) false || (is_key (codes "examples") (key_of step) && is_item rest)
+
+-- the keys after a step are names that somebody gave, where they are so before it or not
+abbrev pub names_after : Bool → Step → Bool
+names_after are_names step = not are_names && option_map_or has_names (key_of step) false
+
+-- a text refers to something: it is under a keyword that refers, or in the mapping of a discriminator (OpenAPI 3.1, 4.8.25)
+abbrev pub is_reference_after : Step → List Step → Bool
+is_reference_after step [] = option_map_or is_referring (key_of step) false
+is_reference_after step (next ∷ last ∷ []) =
+    is_key (codes "discriminator") (key_of step) && is_key (codes "mapping") (key_of next)
+    && is_some (key_of last)
+is_reference_after step other = false
+
+abbrev pub is_reference_from : Bool → List Step → Bool
+is_reference_from are_names [] = false
+is_reference_from are_names (step ∷ rest) =
+    if not are_names && is_reference_after step rest then true
+    else (if not are_names && is_passed step rest then false
+    else is_reference_from (names_after are_names step) rest)
+
+-- the text at a path refers to something, by the keys on the way: none of these is a name in place of a keyword, and none has data
+abbrev pub is_reference : List Step → Bool
+is_reference path = is_reference_from false path
+
+-- whether a draft has a keyword that refers: `$dynamicRef` came with 2020-12 (Core, 8.2.3.2), and `$recursiveRef` is that of 2019-09 (Core, 8.2.4.2.1)
+abbrev pub is_recursive : Draft → Bool
+is_recursive Draft201909 = true
+is_recursive other = false
+
+abbrev pub has_keyword : Draft → List ℕ → Bool
+has_keyword draft key =
+    if bytes_eq key (codes "$dynamicRef") then has_dynamic draft
+    else (if bytes_eq key (codes "$recursiveRef") then is_recursive draft else true)
 
 -- the keywords whose text names the schema that has them (JSON Schema 2020-12, 8.2.1 and 8.2.2; Draft 4, 7.2)
 abbrev pub names : List (List ℕ)

@@ -1,8 +1,12 @@
 pub mod Asking
 pub mod Changes
 pub mod Clients
+pub mod Definitions
 pub mod Diagnostics
 pub mod Keys
+pub mod Kinds
+pub mod Lines
+pub mod Names
 pub mod Ranges
 pub mod Relative
 pub mod Serving

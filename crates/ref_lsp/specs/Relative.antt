@@ -1,6 +1,6 @@
 -- A URI as a reference relative to a base (RFC 3986, 4.2 and 5.2).
-use Rattle.std.specs.Prelude.{ℕ, zero, suc, ◌+◌, ◌==◌, ◌||◌, Bool, true, false, List, [], ◌∷◌, ◌++◌, take, drop, count_by, codes, nat_lt, if◌then◌else◌}
-use Rattle.std.specs.List.{before_first}
+use Rattle.std.specs.Prelude.{ℕ, zero, suc, ◌+◌, ◌==◌, ◌||◌, Bool, true, false, List, [], ◌∷◌, ◌++◌, take, drop, count_by, codes, nat_eq, nat_lt, not, if◌then◌else◌}
+use Rattle.std.specs.List.{before_first, starts_with}
 
 -- a base as far as references are relative to it: without its query
 abbrev pub without_query : List ℕ → List ℕ
@@ -47,3 +47,7 @@ relative_by start base uri =
 -- a URI from a base: by as many steps up as are needed, where both have their scheme and host in common, and else as it is
 abbrev pub relative : List ℕ → List ℕ → List ℕ
 relative base uri = relative_by (shared (without_query base) uri) (without_query base) uri
+
+-- a reference to a file is by its path: one by the URI of the file would mean it on this machine alone
+abbrev pub is_near : List ℕ → Bool
+is_near reference = not (starts_with nat_eq reference (codes "file:"))

@@ -1,6 +1,7 @@
 //! What mends something.
 ghost use Rattle.std.specs.Prelude.{◌≡◌};
 ghost use Rattle.serde_json.specs.View.{items_view, view};
+ghost use Rattle.ref_lsp.specs.Clients as clients;
 ghost use Rattle.ref_lsp.specs.Ranges as spec;
 
 use crate::desk::Desk;
@@ -12,17 +13,18 @@ use ref_protocol::refusal::Refusal;
 use serde_json::Value;
 use std::alloc::{AllocError, Global};
 
-/// `textDocument/codeAction`: the changes that mend what touches a range of a document.
+/// `textDocument/codeAction`: the changes that mend what touches a range of a document; none where the client takes commands alone.
 pub fn actions(desk: &Desk<'_>, told: &Told, params: &Value) -> Result<String, Refusal> {
     let alloc = desk.alloc();
-    let (Some(uri), Some(range)) = (
+    let (Some(uri), Some(range), true) = (
         params.pointer("/textDocument/uri").and_then(Value::as_str),
         range_at(params),
+        has_context(params),
     ) else {
         return Err(Refusal::NoParameters);
     };
     let mut out = String::from_str(alloc, "[")?;
-    if takes_fixes(params) {
+    if desk.takes_actions && takes_fixes(params) {
         for fix in &told.fixes {
             if fix.uri.as_str() == uri && touches(fix.range, range) {
                 push_comma(&mut out)?;
@@ -32,6 +34,16 @@ pub fn actions(desk: &Desk<'_>, told: &Told, params: &Value) -> Result<String, R
     }
     out.push(']')?;
     Ok(out)
+}
+
+// Whether a request has its context, with diagnostics.
+fn has_context(params: &Value) -> bool
+    ensures { result ≡ clients.has_diagnostics (view params.now) }
+{
+    params
+        .pointer("/context/diagnostics")
+        .and_then(Value::as_array)
+        .is_some()
 }
 
 // Whether changes that mend are among the kinds that are asked for; they are where none are named.

@@ -5,8 +5,11 @@ ghost use Rattle.ref_lsp.specs.Keys as keys;
 
 use crate::desk::Desk;
 use crate::judged::range_of;
-use crate::keys::{is_key, is_mapped, key_before};
+use crate::keys::{has_keyword, is_key, is_mapped, is_reference, key_before};
+use crate::ranges::last_line;
 use crate::texts::offset_in;
+use ref_descriptions::{Version, reading_of_root, version_of};
+use ref_draft::Draft;
 use ref_files::{DocumentText, Format, file_uri};
 use ref_fixes::as_fragment;
 use ref_outline::Outline;
@@ -16,7 +19,6 @@ use ref_positions::{Part, Step};
 use ref_protocol::encoding::place_at;
 use ref_protocol::pieces::Range;
 use ref_protocol::refusal::Refusal;
-use ref_workspace::referring::is_referring;
 use serde_json::Value;
 use std::alloc::{AllocError, Global};
 
@@ -79,9 +81,12 @@ pub fn written_place(desk: &Desk<'_>, params: &Value) -> Result<Option<Asked>, R
     let (number, offset) = (asked.number, asked.offset);
     let (format, text) = desk.text_of(number);
     let is_sound = desk.is_sound(number);
-    let part = if !is_sound && asked.part.is_none() {
-        unclosed(alloc, format, text, offset)?
-    } else if is_sound && format == Format::Yaml {
+    let part = if !is_sound {
+        match unclosed(alloc, format, text, offset, true)? {
+            None if asked.part.is_none() => unclosed(alloc, format, text, offset, false)?,
+            part => part,
+        }
+    } else if format == Format::Yaml {
         unwritten(alloc, text, offset)?
     } else {
         None
@@ -120,12 +125,14 @@ fn unwritten(alloc: Global, text: &str, offset: usize) -> Result<Option<Part>, A
 // What ends what is written of a string that isn't closed.
 const ENDS: [char; 9] = [' ', '\t', '\r', '\n', '"', '\'', ',', '}', ']'];
 
-// The string around an offset that isn't closed: the one that is there once a quote is after what is written.
+// The string around an offset that isn't closed: the one that is there once a quote is after what is written. It may be asked that the text is
+// whole then: so one string isn't taken for what is between two others, as in `{"$ref": ", "title": "a"}`.
 fn unclosed(
     alloc: Global,
     format: Format,
     text: &str,
     offset: usize,
+    is_whole: bool,
 ) -> Result<Option<Part>, AllocError> {
     let rest = text.get(offset..).unwrap_or("");
     let length = rest.find(ENDS).unwrap_or(rest.len());
@@ -137,7 +144,10 @@ fn unclosed(
         if let Some(part) = part_in(alloc, format, closed.as_str(), offset)? {
             let is_closed = part.end == end.saturating_add(1);
             let token = text.get(part.start..offset).unwrap_or("");
-            if is_closed && token.starts_with(quote) {
+            if is_closed
+                && token.starts_with(quote)
+                && (!is_whole || has_sound(alloc, format, closed.as_str())?)
+            {
                 let mut part = part;
                 part.end = end;
                 return Ok(Some(part));
@@ -145,6 +155,12 @@ fn unclosed(
         }
     }
     Ok(None)
+}
+
+// Whether a text has a value.
+fn has_sound(alloc: Global, format: Format, text: &str) -> Result<bool, AllocError> {
+    let text = DocumentText::new(alloc, format, String::from_str(alloc, text)?)?;
+    Ok(text.fault().is_none())
 }
 
 /// What is written at the place that a request is about, as a whole and up to the place: nothing where it is about none.
@@ -162,14 +178,14 @@ pub fn texts_at(desk: &Desk<'_>, params: &Value) -> Result<Vec<String>, AllocErr
 }
 
 impl Asked {
-    /// What is written of the key or the value before the place, without the quote before it.
+    /// What is written of the key or the value before the place, on its line and without the quote before it.
     pub fn before<'d>(&self, desk: &'d Desk<'_>) -> &'d str {
         let (_, text) = desk.text_of(self.number);
         let start = match &self.part {
             Some(part) => part.start,
             None => self.offset,
         };
-        let before = text.get(start..self.offset).unwrap_or("");
+        let before = last_line(text.get(start..self.offset).unwrap_or(""));
         before.trim_start_matches('"').trim_start_matches('\'')
     }
 
@@ -197,9 +213,17 @@ impl Asked {
         is_mapped(self.path())
     }
 
-    /// Whether the value is to refer to something.
-    pub fn is_referring(&self) -> bool {
-        self.is_mapped() || self.key().is_some_and(is_referring)
+    /// Whether the value is to refer to something, by the keys on the way to it and by its draft.
+    pub fn is_referring(&self, desk: &Desk<'_>) -> bool {
+        if !is_reference(self.path()) {
+            return false;
+        }
+        match self.key() {
+            Some(key) if !self.is_mapped() => {
+                refers_at(desk, self.number, self.pointer.as_str(), key)
+            }
+            _ => true,
+        }
     }
 
     /// Whether the value is under a key.
@@ -211,7 +235,7 @@ impl Asked {
 
     /// The reference that is there: its text, and the text that is followed.
     pub fn reference(&self, desk: &Desk<'_>) -> Result<Option<String>, AllocError> {
-        if !self.is_referring() {
+        if !self.is_referring(desk) {
             return Ok(None);
         }
         let Some(text) = self.text(desk)? else {
@@ -275,6 +299,37 @@ pub fn mapped(desk: &Desk<'_>, number: usize, text: &str) -> Result<String, Allo
     write_escaped_str(&mut pointer, text)?;
     let fragment = as_fragment(alloc, pointer.as_str())?;
     format!(in alloc; "#{fragment}")
+}
+
+/// Whether the text at a pointer, under a keyword that refers, does that by the draft there.
+pub fn refers_at(desk: &Desk<'_>, number: usize, pointer: &str, key: &str) -> bool {
+    has_keyword(Draft::Draft4, key) || has_keyword(draft_at(desk, number, pointer), key)
+}
+
+// The draft at a pointer: that of the innermost `$schema` around it, and else that of the document.
+fn draft_at(desk: &Desk<'_>, number: usize, pointer: &str) -> Draft {
+    let Some(root) = desk.workspace.value(number) else {
+        return desk.workspace.draft();
+    };
+    let mut front = pointer;
+    for _ in 0..=pointer.len() {
+        if let Some(text) = dialect_at(root, front) {
+            return Draft::from_schema_uri(text);
+        }
+        match front.rsplit_once('/') {
+            Some((shorter, _)) => front = shorter,
+            None => break,
+        }
+    }
+    match version_of(root) {
+        None => desk.workspace.draft(),
+        Some(Version::V2_0 | Version::V3_0) => Draft::Draft4,
+        Some(version) => reading_of_root(version, root).draft,
+    }
+}
+
+fn dialect_at<'v>(root: &'v Value, pointer: &str) -> Option<&'v str> {
+    root.pointer(pointer)?.get("$schema")?.as_str()
 }
 
 /// A place of a document: its URI for the client, and the ranges of its key, or else its beginning, and of the whole value.

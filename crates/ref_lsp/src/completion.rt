@@ -2,20 +2,25 @@
 ghost use Rattle.std.specs.Prelude.{◌≡◌, ◌≤◌, ◌++◌, IfOk, OnOk, length, option_map, string_bytes};
 ghost use Rattle.std.specs.List.{list_any};
 ghost use Rattle.ref_lsp.specs.Keys as keys;
+ghost use Rattle.ref_lsp.specs.Kinds as kinds;
 ghost use Rattle.ref_lsp.specs.Relative as spec;
 
 use crate::asked::{Asked, written_place};
-use crate::definition::followed;
+use crate::definition::{followed, number_of};
 use crate::desk::Desk;
+use crate::judged::range_of;
 use crate::keys::{is_key, key_before, key_of};
-use crate::workspace_symbols::named_in;
+use crate::kinds::{DEFINITIONS, has_anchors, is_in_group, wanted_at};
+use crate::ranges::{Edits, edits_at};
+use crate::workspace_symbols::definitions_in;
+use ref_descriptions::Kind;
 use ref_files::{Format, folder_of, last_name};
 use ref_fixes::{as_fragment, written};
 use ref_positions::Step;
 use ref_protocol::pieces::{push_comma, push_range, push_text, quoted};
 use ref_protocol::refusal::Refusal;
 use ref_workspace::View;
-use ref_workspace::follow::Start;
+use ref_workspace::follow::{Found, Start};
 use serde_json::Value;
 use std::alloc::{AllocError, Global};
 use std::collections::BTreeSet;
@@ -37,7 +42,13 @@ struct Items<'d> {
     // What is replaced, and the edit of an item up to its new text, with the quote before this.
     token: String,
     edit: String,
+    // What comes after the new text: the edits that take away what the token has on other lines.
+    rest: String,
+    // Whether the token begins on a line before.
+    is_apart: bool,
     format: Format,
+    // The kind of the object that is wanted, where it is known.
+    wanted: Option<Kind>,
 }
 
 // The kinds of items in the protocol: a value, a file and a reference.
@@ -54,7 +65,7 @@ pub fn completion(desk: &Desk<'_>, view: &View<'_, '_>, params: &Value) -> Resul
     let alloc = desk.alloc();
     let mut out = String::from_str(alloc, "[")?;
     if let Some(asked) = written_place(desk, params)? {
-        if asked.is_referring() && asked.part.as_ref().is_some_and(|part| !part.is_key) {
+        if asked.is_referring(desk) && asked.part.as_ref().is_some_and(|part| !part.is_key) {
             out = listed(desk, view, &asked)?;
         }
     }
@@ -72,12 +83,16 @@ fn listed(desk: &Desk<'_>, view: &View<'_, '_>, asked: &Asked) -> Result<String,
     let token = text.get(start..end).unwrap_or("");
     let lead = lead_of(format, text.get(..start).unwrap_or(""), token);
     let before = asked.before(desk);
+    let edits = edits_at(text, start, end, asked.offset);
     let mut items = Items {
         desk,
         out: String::from_str(alloc, "[")?,
         token: String::from_str(alloc, token)?,
-        edit: edit_of(alloc, desk, asked, lead)?,
+        edit: edit_of(alloc, desk, (text, edits), lead)?,
+        rest: rest_of(alloc, desk, text, edits)?,
+        is_apart: edits.from < edits.start,
         format,
+        wanted: wanted_at(alloc, view, asked)?,
     };
     if asked.is_under("$schema") {
         items.push_dialects()?;
@@ -107,14 +122,43 @@ fn lead_of(format: Format, before: &str, token: &str) -> &'static str
 fn edit_of(
     alloc: Global,
     desk: &Desk<'_>,
-    asked: &Asked,
+    (text, edits): (&str, Edits),
     lead: &str,
 ) -> Result<String, AllocError> {
     let mut edit = String::new(alloc);
-    push_range(&mut edit, ",\"textEdit\":{\"range\":", asked.range(desk))?;
+    let range = range_of(desk, text, edits.start, edits.end);
+    push_range(&mut edit, ",\"textEdit\":{\"range\":", range)?;
     edit.push_str(",\"newText\":\"")?;
     edit.push_str(lead)?;
     Ok(edit)
+}
+
+// What ends an item: the edits that take away what the token has before its line and after it.
+fn rest_of(alloc: Global, desk: &Desk<'_>, text: &str, edits: Edits) -> Result<String, AllocError> {
+    let mut out = String::from_str(alloc, "}")?;
+    if edits.from < edits.start || edits.end < edits.to {
+        out.push_str(",\"additionalTextEdits\":[")?;
+        push_cut(desk, &mut out, text, (edits.from, edits.start))?;
+        push_cut(desk, &mut out, text, (edits.end, edits.to))?;
+        out.push(']')?;
+    }
+    out.push('}')?;
+    Ok(out)
+}
+
+// Adds the edit that takes away what is between two offsets, where something is.
+fn push_cut(
+    desk: &Desk<'_>,
+    out: &mut String,
+    text: &str,
+    (from, to): (usize, usize),
+) -> Result<(), AllocError> {
+    if from < to {
+        push_comma(out)?;
+        push_range(out, "{\"range\":", range_of(desk, text, from, to))?;
+        out.push_str(",\"newText\":\"\"}")?;
+    }
+    Ok(())
 }
 
 impl Items<'_> {
@@ -127,12 +171,16 @@ impl Items<'_> {
         push_text(alloc, &mut self.out, "{\"label\":", text)?;
         self.out.push_str(",\"kind\":")?;
         self.out.push_str(kind)?;
-        self.out.push_str(",\"filterText\":")?;
-        self.out.push_str(new.as_str())?;
+        if self.is_apart {
+            push_text(alloc, &mut self.out, ",\"filterText\":", text)?;
+        } else {
+            self.out.push_str(",\"filterText\":")?;
+            self.out.push_str(new.as_str())?;
+        }
         self.out.push_str(self.edit.as_str())?;
         self.out
             .push_str(new.as_str().strip_prefix('"').unwrap_or(""))?;
-        self.out.push_str("}}")
+        self.out.push_str(self.rest.as_str())
     }
 
     // Adds the dialects of the drafts, and those whose meta-schemas are among the documents.
@@ -150,7 +198,8 @@ impl Items<'_> {
         Ok(())
     }
 
-    // Adds the documents by their relative paths, and the places of the document itself.
+    // Adds the documents by their relative paths, and the places of the document itself. A file that is only named by the URI of its file, as from
+    // an identifier elsewhere, isn't one to refer to.
     fn push_both(&mut self, view: &View<'_, '_>, asked: &Asked) -> Result<(), AllocError> {
         self.push_places(view, asked, "")?;
         let workspace = view.workspace;
@@ -161,7 +210,9 @@ impl Items<'_> {
             if number != asked.number {
                 if let Some(uri) = workspace.uri(number) {
                     let relative = relative(self.desk.alloc(), base.as_str(), uri.as_str())?;
-                    self.push(relative.as_str(), FILE)?;
+                    if is_near(relative.as_str()) {
+                        self.push(relative.as_str(), FILE)?;
+                    }
                 }
             }
         }
@@ -180,12 +231,16 @@ impl Items<'_> {
         let Some(found) = followed(alloc, view, start_of(asked), whole.as_str())? else {
             return Ok(());
         };
-        for pointer in named_in(alloc, found.value)? {
-            if is_of_kind(asked.path(), pointer.as_str()) {
+        for pointer in definitions_in(alloc, found.value)? {
+            let is_one = is_offered(self.wanted, asked.path(), pointer.as_str());
+            if is_one && is_within(alloc, view, &found, pointer.as_str())? {
                 let fragment = as_fragment(alloc, pointer.as_str())?;
                 let text = format!(in alloc; "{front}#{fragment}")?;
                 self.push(text.as_str(), REFERENCE)?;
             }
+        }
+        if !has_anchors(self.wanted) {
+            return Ok(());
         }
         for anchor in anchors_in(alloc, found.value)? {
             let text = format!(in alloc; "{front}#{anchor}")?;
@@ -207,6 +262,43 @@ impl Items<'_> {
             _ => Ok(()),
         }
     }
+}
+
+// Whether what has a definition, at a pointer in what was found, has the base that this has: what is in a schema with an identifier of its own is
+// named by that.
+fn is_within(
+    alloc: Global,
+    view: &View<'_, '_>,
+    found: &Found<'_>,
+    pointer: &str,
+) -> Result<bool, AllocError> {
+    let around = folder_of(folder_of(pointer));
+    if around.is_empty() || around == "/components" {
+        return Ok(true);
+    }
+    let Some(number) = number_of(view, found) else {
+        return Ok(true);
+    };
+    let whole = found.pointer.as_str();
+    let inner = format!(in alloc; "{whole}{around}")?;
+    let own = view.base_at(
+        alloc,
+        Start {
+            number,
+            pointer: whole,
+        },
+    )?;
+    let other = view.base_at(
+        alloc,
+        Start {
+            number,
+            pointer: inner.as_str(),
+        },
+    )?;
+    Ok(match (own, other) {
+        (Some(own), Some(other)) => own.as_str() == other.as_str(),
+        _ => true,
+    })
 }
 
 // The identifier of a meta-schema that has vocabularies, where it is no reference relative to a base, which a `$schema` can't be (2020-12 Core, 8.1.1).
@@ -237,9 +329,6 @@ const GROUPS: [&str; 8] = [
     "responses",
     "securitySchemes",
 ];
-
-// The members that have definitions, which are schemas.
-const DEFINITIONS: [&str; 2] = ["$defs", "definitions"];
 
 // The members whose values are path items.
 const PATH_ITEMS: [&str; 3] = ["paths", "webhooks", "pathItems"];
@@ -315,6 +404,16 @@ fn is_of_kind(path: &[Step], component: &str) -> bool
     DEFINITIONS.contains(&group) || is_key(needed_at(path), group)
 }
 
+// Whether a component is offered: it is of the kind that is wanted, or where none is known, of that which the keys on the way to the reference say.
+fn is_offered(wanted: Option<Kind>, path: &[Step], component: &str) -> bool
+    ensures { result ≡ kinds.is_offered wanted path.now component.now }
+{
+    match wanted {
+        Some(kind) => is_in_group(kind, last_name(folder_of(component))),
+        None => is_of_kind(path, component),
+    }
+}
+
 // The names that may be those of anchors of a value, each once.
 fn anchors_in<'v>(alloc: Global, root: &'v Value) -> Result<Vec<&'v str>, AllocError> {
     let mut names = Vec::new(alloc);
@@ -375,6 +474,13 @@ fn relative(alloc: Global, base: &str, uri: &str) -> Result<String, AllocError>
         return String::from_str(alloc, uri);
     }
     after_ups(alloc, slashes(&base[start..]), &uri[start..])
+}
+
+// Whether a reference to a file is by its path, and not by the URI of the file.
+fn is_near(reference: &str) -> bool
+    ensures { result ≡ spec.is_near reference.now }
+{
+    !reference.starts_with("file:")
 }
 
 // A path after so many steps up: where there is none, in a form in which it means a path.

@@ -1,5 +1,5 @@
 //! The documents below the client's folders, with those texts that it has open.
-use crate::mapped::real_path;
+use crate::mapped::{has_dots, real_path};
 use crate::summaries::Summaries;
 use crate::texts::last_put;
 use ref_command_line::say_failures;
@@ -99,6 +99,10 @@ pub struct Desk<'r> {
     pub(crate) encoding: Encoding,
     /// Whether the client takes no Markdown over a place.
     pub(crate) is_plain: bool,
+    /// Whether it takes places that have to do with what is wrong.
+    pub(crate) takes_related: bool,
+    /// Whether it takes changes as literals, and not as commands alone.
+    pub(crate) takes_actions: bool,
     /// The paths of the client's folders.
     pub(crate) folders: Vec<String>,
     /// The texts that are open.
@@ -133,6 +137,8 @@ impl<'r> Desk<'r> {
             maps,
             encoding: Encoding::Utf16,
             is_plain: false,
+            takes_related: false,
+            takes_actions: false,
             folders: Vec::new(rt.alloc()),
             open: Vec::new(rt.alloc()),
             workspace,
@@ -655,9 +661,19 @@ impl<'r> Desk<'r> {
         }
         let name = self.workspace.name(number);
         if name.starts_with('/') {
-            return file_uri(self.alloc(), name);
+            return file_uri(self.alloc(), self.plain_path(number, name));
         }
         String::from_str(self.alloc(), name)
+    }
+
+    // The path of the file of the document with a number and a path: without links, where the path has steps up in it.
+    fn plain_path<'p>(&'p self, number: usize, path: &'p str) -> &'p str {
+        let real = self.path_of(number);
+        if has_dots(path.as_bytes()) && !real.is_empty() {
+            real
+        } else {
+            path
+        }
     }
 
     /// The number of the document with a URI of the client.

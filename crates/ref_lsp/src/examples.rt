@@ -2,17 +2,26 @@
 #![tactic(auto)]
 
 ghost use Rattle.std.specs.Prelude.{◌≡◌, [], ◌∷◌, codes, false, true, None, Some};
-ghost use Rattle.serde_json.specs.Data.{boolean, item, no_items, null, string};
+ghost use Rattle.serde_json.specs.Data.{array, boolean, item, member, no_items, no_members, null, object, string};
+ghost use Rattle.ref_descriptions.specs.declared.fields.Holding.TheVariants.{One, Each, Members, OneOrEach};
+ghost use Rattle.ref_descriptions.specs.declared.kind.Kind.TheVariants.{Operation, Parameter, Response, Root, Schema};
+ghost use Rattle.ref_descriptions.specs.declared.version.Version.TheVariants.{V2_0, V3_1};
+ghost use Rattle.ref_draft.specs.declared.draft.Draft.TheVariants.{Draft7, Draft201909, Draft202012};
 ghost use Rattle.ref_messages.specs.declared.message.Level.TheVariants.{Warning};
 ghost use Rattle.ref_positions.specs.declared.format.Format.TheVariants.{Json, Yaml};
+ghost use Rattle.ref_positions.specs.declared.part.Step.TheVariants.{Item};
 ghost use Rattle.ref_protocol.specs.declared.encoding.Encoding.TheVariants.{Utf8, Utf16, Utf32};
 ghost use Rattle.ref_protocol.specs.declared.methods.Method.TheVariants.{Initialize, DidChange, Hover, Completion, Diagnostic, Shutdown, Exit};
 ghost use Rattle.ref_lsp.specs.Changes.{after_change, offset_by, unmarked};
-ghost use Rattle.ref_lsp.specs.Clients.{first_of, format_of, has_markdown};
+ghost use Rattle.ref_lsp.specs.Clients.{first_of, format_of, has_capabilities, has_markdown};
+ghost use Rattle.ref_lsp.specs.Definitions.{are_definitions, has_names, is_passed};
 ghost use Rattle.ref_lsp.specs.Diagnostics.{is_judged, may_go_on, severity_of};
-ghost use Rattle.ref_lsp.specs.Keys.{group_named, group_of, has_schema, has_set, is_key, is_name, lead_of};
+ghost use Rattle.ref_lsp.specs.Keys.{group_named, group_of, has_keyword, has_schema, has_set, is_key, is_name, is_reference, lead_of};
+ghost use Rattle.ref_lsp.specs.Kinds.{after, along, has_anchors, is_in_group, is_offered, kind_there};
+ghost use Rattle.ref_lsp.specs.Lines.{since_line, up_to_line};
+ghost use Rattle.ref_lsp.specs.Names.{has_dots};
 ghost use Rattle.ref_lsp.specs.Ranges.{is_of_fixes, touches};
-ghost use Rattle.ref_lsp.specs.Relative.{relative, shared};
+ghost use Rattle.ref_lsp.specs.Relative.{is_near, relative, shared};
 ghost use Rattle.ref_lsp.specs.Serving.{moves, needs_view, serves};
 ghost use Rattle.ref_lsp.specs.Symbols.{is_array};
 ghost use Rattle.ref_lsp.specs.Turns.{later};
@@ -94,6 +103,66 @@ pub fn keys()
     ensures before_a_token { lead_of Yaml (codes "$ref:") (codes "a") ≡ codes "" }
 {}
 
+/// Which components are of the kind that a reference of a description wants.
+pub fn kinds()
+    ensures response { is_in_group Response (codes "responses") ≡ true }
+    ensures definition { is_in_group Schema (codes "$defs") ≡ true }
+    ensures no_response { is_in_group Response (codes "definitions") ≡ false }
+    ensures no_operation { is_in_group Operation (codes "schemas") ≡ false }
+    ensures in_a_schema { along V3_1 (One, Schema) (Item 1 ∷ Item 2 ∷ []) ≡ Some (One, Schema) }
+    ensures in_a_list { along V2_0 (Each, Parameter) (Item 0 ∷ []) ≡ Some (One, Parameter) }
+    ensures in_a_map { after V3_1 (Members, Response) (Item 0) ≡ None }
+    ensures in_either { after V2_0 (OneOrEach, Schema) (Item 0) ≡ Some (One, Schema) }
+    ensures in_an_object { after V3_1 (One, Root) (Item 0) ≡ None }
+    ensures an_object { kind_there (One, Response) ≡ Some Response }
+    ensures a_list { kind_there (Each, Parameter) ≡ None }
+    ensures wanted { is_offered (Some Parameter) [] (codes "/components/parameters/a") ≡ true }
+    ensures not_wanted { is_offered (Some Parameter) [] (codes "/$defs/a") ≡ false }
+    ensures anchors { has_anchors (Some Schema) ≡ true }
+    ensures no_anchors { has_anchors (Some Response) ≡ false }
+    ensures not_known { is_offered None [] (codes "/$defs/a") ≡ true }
+{}
+
+/// Which texts refer to something, by their drafts.
+pub fn references()
+    ensures dynamic { has_keyword Draft202012 (codes "$dynamicRef") ≡ true }
+    ensures before_it_came { has_keyword Draft7 (codes "$dynamicRef") ≡ false }
+    ensures recursive { has_keyword Draft201909 (codes "$recursiveRef") ≡ true }
+    ensures after_it_went { has_keyword Draft202012 (codes "$recursiveRef") ≡ false }
+    ensures plain { has_keyword Draft7 (codes "$ref") ≡ true }
+    ensures the_root { is_reference [] ≡ false }
+    ensures an_item { is_reference (Item 0 ∷ []) ≡ false }
+{}
+
+/// Where definitions are.
+pub fn definitions()
+    ensures definitions { are_definitions false (codes "$defs") ≡ true }
+    ensures a_property { are_definitions true (codes "$defs") ≡ false }
+    ensures data { is_passed false (codes "const") ≡ true }
+    ensures a_name { is_passed true (codes "const") ≡ false }
+    ensures properties { has_names (codes "") false (codes "properties") ≡ true }
+    ensures components { has_names (codes "/components") false (codes "responses") ≡ true }
+    ensures a_schema { has_names (codes "") false (codes "not") ≡ false }
+{}
+
+/// What is edited of a scalar of several lines.
+pub fn lines()
+    ensures of_a_block { since_line 0 (codes ">-\n  s") ≡ 1 }
+    ensures of_the_first { since_line 0 (codes "a b") ≡ 3 }
+    ensures of_blanks { since_line 0 (codes ">-\n  ") ≡ 0 }
+    ensures before_a_line { up_to_line 0 0 (codes "b c \r\n  d") ≡ 3 }
+    ensures of_the_last { up_to_line 0 0 (codes "b\"") ≡ 2 }
+    ensures of_nothing { up_to_line 0 0 (codes "\n  d") ≡ 0 }
+{}
+
+/// Paths as a client has them.
+pub fn names()
+    ensures up { has_dots (codes "/w/../m/k.json") ≡ true }
+    ensures the_same { has_dots (codes "/w/./k.json") ≡ true }
+    ensures none { has_dots (codes "/w/.m/..k/a..b") ≡ false }
+    ensures its_beginning { has_dots (codes "../k.json") ≡ false }
+{}
+
 /// Which of two open texts counts, by their turns, each with the text's place.
 pub fn turns()
     ensures later_one { later (Some (1, 0)) (Some (2, 1)) ≡ Some (2, 1) }
@@ -109,6 +178,10 @@ pub fn clients()
     ensures another_kind { is_of_fixes (string (codes "refactor")) ≡ false }
     ensures markdown { has_markdown (item (string (codes "markdown")) no_items) ≡ true }
     ensures plain_text { has_markdown (item (string (codes "plaintext")) no_items) ≡ false }
+    ensures nothing_said { has_capabilities (object no_members) ≡ false }
+    ensures a_list { has_capabilities (array (item (object no_members) no_items)) ≡ false }
+    ensures said_to_be_nothing { has_capabilities (object (member (codes "capabilities") null no_members)) ≡ false }
+    ensures said { has_capabilities (object (member (codes "capabilities") (object no_members) no_members)) ≡ true }
 {}
 
 /// References relative to a base (RFC 3986, 5.4, has most of these).
@@ -124,6 +197,9 @@ pub fn relatives()
     ensures query_of_the_base { relative (codes "http://a/b?x/y") (codes "http://a/g") ≡ codes "g" }
     ensures another_host { relative (codes "http://a/b") (codes "http://c/b") ≡ codes "http://c/b" }
     ensures no_folders { relative (codes "urn:a:b") (codes "urn:a:c") ≡ codes "urn:a:c" }
+    ensures by_its_path { is_near (codes "../b.json") ≡ true }
+    ensures by_its_uri { is_near (codes "file:///w/b.json") ≡ false }
+    ensures of_a_map { is_near (codes "https://a/b.json") ≡ true }
     ensures a_file { relative (codes "file:///w/a.json") (codes "file:///w/b.json") ≡ codes "b.json" }
 {}
 

@@ -300,7 +300,7 @@ impl Judged {
         let said = said(alloc, message)?;
         let mut out = String::new(alloc);
         push_head(alloc, &mut out, range, message, said.as_str())?;
-        if let Some(first) = &message.first {
+        if let (Some(first), true) = (&message.first, desk.takes_related) {
             push_first(desk, &mut out, first)?;
         }
         out.push('}')?;

@@ -1,9 +1,13 @@
 //! Keys on the way to a value.
-ghost use Rattle.std.specs.Prelude.{◌≡◌, option_map};
+ghost use Rattle.std.specs.Prelude.{◌≡◌, false, option_map};
+ghost use Rattle.std.specs.Option.{option_map_or};
 ghost use Rattle.serde_json.specs.View.{view};
+ghost use Rattle.ref_workspace.specs.Referring as keys;
 ghost use Rattle.ref_lsp.specs.Keys as spec;
 
+use ref_draft::Draft;
 use ref_positions::Step;
+use ref_workspace::referring::{has_names, is_data, is_referring};
 use serde_json::Value;
 
 /// The key of a step to a member.
@@ -43,6 +47,94 @@ pub fn is_mapped(path: &[Step]) -> bool
     is_key(key_before(path, 2), "discriminator")
         && is_key(key_before(path, 1), "mapping")
         && key_before(path, 0).is_some()
+}
+
+/// Whether the text at a path refers to something, by the keys on the way to it. A step for each.
+pub fn is_reference(path: &[Step]) -> bool
+    ensures value { result ≡ spec.is_reference path.now }
+{
+    let mut rest = path;
+    let mut are_names = false;
+    'steps: while let [step, more @ ..] = rest {
+        if !are_names && is_reference_after(step, more) {
+            return true;
+        }
+        if !are_names && is_passed(step, more) {
+            return false;
+        }
+        are_names = names_after(are_names, step);
+        rest = more;
+    }
+    false
+}
+
+// Whether a text at the end of steps refers to something, of which the first is to a member under a keyword.
+fn is_reference_after(step: &Step, rest: &[Step]) -> bool
+    ensures { result ≡ spec.is_reference_after step.now rest.now }
+{
+    match rest {
+        [] => refers(key_of(step)),
+        [next, last] => {
+            is_key(key_of(step), "discriminator")
+                && is_key(key_of(next), "mapping")
+                && key_of(last).is_some()
+        }
+        _ => false,
+    }
+}
+// Whether the text under a key refers to something.
+fn refers(key: Option<&str>) -> bool
+    ensures { result ≡ option_map_or keys.is_referring (option_map (λ own. own.now) key.entry) false }
+{
+    match key {
+        Some(key) => is_referring(key),
+        None => false,
+    }
+}
+
+fn is_item(rest: &[Step]) -> bool
+    ensures { result ≡ spec.is_item rest.now }
+{
+    match rest {
+        [Step::Item(_), ..] => true,
+        _ => false,
+    }
+}
+
+// Whether nothing on the way after a step refers to something, where its key is a keyword.
+fn is_passed(step: &Step, rest: &[Step]) -> bool
+    ensures { result ≡ spec.is_passed step.now rest.now }
+{
+    match key_of(step) {
+        Some(key) => is_data(key) || key == "examples" && is_item(rest),
+        None => false,
+    }
+}
+
+// Whether the keys after a step are names that somebody gave.
+fn names_after(are_names: bool, step: &Step) -> bool
+    ensures { result ≡ spec.names_after are_names step.now }
+{
+    if are_names {
+        return false;
+    }
+    match key_of(step) {
+        Some(key) => has_names(key),
+        None => false,
+    }
+}
+
+/// Whether a draft has a keyword that refers: one for each but `$dynamicRef` and `$recursiveRef`.
+pub fn has_keyword(draft: Draft, key: &str) -> bool
+    ensures value { result ≡ spec.has_keyword draft key.now }
+{
+    if key == "$dynamicRef" {
+        matches!(draft, Draft::Draft202012 | Draft::Unknown)
+    } else if key == "$recursiveRef" {
+        draft == Draft::Draft201909
+    } else {
+        true
+    }
 }
 
 // The keys whose text names the object that has it.

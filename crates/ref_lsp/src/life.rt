@@ -14,7 +14,10 @@ use std::alloc::{AllocError, Global};
 
 /// What the server can, after the encoding of positions.
 const CAPABILITIES: &str =
-    ",\"textDocumentSync\":{\"openClose\":true,\"change\":2,\"save\":{\"includeText\":false}},\"definitionProvider\":true,\"referencesProvider\":true,\"hoverProvider\":true,\"documentLinkProvider\":{\"resolveProvider\":false},\"documentSymbolProvider\":true,\"workspaceSymbolProvider\":true,\"completionProvider\":{\"triggerCharacters\":[\"\\\"\",\"'\",\"#\",\"/\"],\"resolveProvider\":false},\"renameProvider\":{\"prepareProvider\":true},\"codeActionProvider\":{\"codeActionKinds\":[\"quickfix\"]},\"workspace\":{\"workspaceFolders\":{\"supported\":true,\"changeNotifications\":true},\"fileOperations\":{\"willRename\":{\"filters\":[{\"scheme\":\"file\",\"pattern\":{\"glob\":\"**\"}}]}}}";
+    ",\"textDocumentSync\":{\"openClose\":true,\"change\":2,\"save\":{\"includeText\":false}},\"definitionProvider\":true,\"referencesProvider\":true,\"hoverProvider\":true,\"documentLinkProvider\":{\"resolveProvider\":false},\"documentSymbolProvider\":true,\"workspaceSymbolProvider\":true,\"completionProvider\":{\"triggerCharacters\":[\"\\\"\",\"'\",\"#\",\"/\"],\"resolveProvider\":false},\"renameProvider\":{\"prepareProvider\":true},\"workspace\":{\"workspaceFolders\":{\"supported\":true,\"changeNotifications\":true},\"fileOperations\":{\"willRename\":{\"filters\":[{\"scheme\":\"file\",\"pattern\":{\"glob\":\"**\"}}]}}}";
+
+// And where the client takes changes as literals.
+const ACTIONS: &str = ",\"codeActionProvider\":{\"codeActionKinds\":[\"quickfix\"]}";
 
 const PULLED: &str =
     ",\"diagnosticProvider\":{\"identifier\":\"patchsard\",\"interFileDependencies\":true,\"workspaceDiagnostics\":true}";
@@ -40,9 +43,41 @@ pub fn initialize(
         told.renewals = Some(0);
     }
     desk.is_plain = takes_plain(params);
+    desk.takes_related = takes_related(params);
+    desk.takes_actions = takes_actions(params);
     add_folders(desk, params)?;
     told.phase = Phase::Running;
-    described(desk.alloc(), desk.encoding, told.pulls)
+    described(desk.alloc(), desk.encoding, told.pulls, desk.takes_actions)
+}
+
+/// Whether a client says what it can, as it must.
+pub fn has_capabilities(params: &Value) -> bool
+    ensures value { result ≡ spec.has_capabilities (view params.now) }
+{
+    params
+        .get("capabilities")
+        .and_then(Value::as_object)
+        .is_some()
+}
+
+// Whether a client takes, with what is wrong, places that have to do with it.
+fn takes_related(params: &Value) -> bool
+    ensures { result ≡ spec.takes_related (view params.now) }
+{
+    is_said(
+        params,
+        "/capabilities/textDocument/publishDiagnostics/relatedInformation",
+    )
+}
+
+// Whether a client takes changes as literals, and not as commands alone.
+fn takes_actions(params: &Value) -> bool
+    ensures { result ≡ spec.takes_actions (view params.now) }
+{
+    params
+        .pointer("/capabilities/textDocument/codeAction/codeActionLiteralSupport")
+        .and_then(Value::as_object)
+        .is_some()
 }
 
 // Whether a client says that it can what is at a pointer.
@@ -133,7 +168,12 @@ fn add_folders(desk: &mut Desk<'_>, params: &Value) -> Result<(), AllocError> {
     }
 }
 
-fn described(alloc: Global, encoding: Encoding, pulls: bool) -> Result<String, AllocError> {
+fn described(
+    alloc: Global,
+    encoding: Encoding,
+    pulls: bool,
+    has_actions: bool,
+) -> Result<String, AllocError> {
     let mut out = String::new(alloc);
     push_text(
         alloc,
@@ -142,6 +182,9 @@ fn described(alloc: Global, encoding: Encoding, pulls: bool) -> Result<String, A
         encoding.name(),
     )?;
     out.push_str(CAPABILITIES)?;
+    if has_actions {
+        out.push_str(ACTIONS)?;
+    }
     if pulls {
         out.push_str(PULLED)?;
     }

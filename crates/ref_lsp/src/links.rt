@@ -3,12 +3,12 @@ use crate::asked::{asked_document, target_of};
 use crate::definition::{followed, number_of};
 use crate::desk::Desk;
 use crate::judged::range_of;
-use crate::references::meant;
+use crate::references::{meant, references_at};
 use ref_outline::Outline;
 use ref_protocol::pieces::{push_comma, push_range, push_text};
 use ref_protocol::refusal::Refusal;
 use ref_workspace::View;
-use ref_workspace::referring::{Referring, references_in};
+use ref_workspace::referring::Referring;
 use serde_json::Value;
 use std::alloc::AllocError;
 
@@ -20,7 +20,7 @@ pub fn links(desk: &Desk<'_>, view: &View<'_, '_>, params: &Value) -> Result<Str
         if let Some(root) = desk.workspace.value(number) {
             let (format, text) = desk.text_of(number);
             let outline = Outline::of(alloc, format, text)?;
-            for referring in references_in(alloc, root)? {
+            for referring in references_at(desk, number, root)? {
                 push_link(desk, view, number, &referring, &outline, &mut out)?;
             }
         }

@@ -1,4 +1,7 @@
 //! The documents of maps, with those of their texts that the client has open.
+ghost use Rattle.std.specs.Prelude.{◌≡◌};
+ghost use Rattle.ref_lsp.specs.Names as spec;
+
 use crate::desk::{Desk, OpenText};
 use ref_error::{Retrieve, RetrieveError};
 use ref_files::{DocumentText, Format, Maps};
@@ -39,14 +42,49 @@ pub fn real_path(rt: &HostRuntime, path: &str) -> Result<Option<String>, AllocEr
     }
 }
 
-/// The absolute path of a file of a map: the path as it is, or one without links where it begins at the working folder.
+/// The absolute path of a file of a map: the path as it is, or one without links where it begins at the working folder, or has steps up in it.
 pub fn absolute(rt: &HostRuntime, path: String) -> Result<String, AllocError> {
-    if path.as_str().starts_with('/') {
+    if path.as_str().starts_with('/') && !has_dots(path.as_str().as_bytes()) {
         return Ok(path);
     }
     match real_path(rt, path.as_str())? {
         Some(real) => Ok(real),
         None => Ok(path),
+    }
+}
+
+/// Whether a path has a step to the same folder or up in it: a client has no file under such a URI.
+pub fn has_dots(path: &[u8]) -> bool
+    ensures value { result ≡ spec.has_dots path.now }
+{
+    let mut rest = path;
+    'bytes: while let [byte, more @ ..] = rest {
+        if *byte == b'/' && begins_with_dots(more) {
+            return true;
+        }
+        rest = more;
+    }
+    false
+}
+
+// Whether a path begins with a step to the same folder or up.
+fn begins_with_dots(path: &[u8]) -> bool
+    ensures { result ≡ spec.begins_with_dots path.now }
+{
+    match path {
+        [first, next, rest @ ..] => {
+            *first == b'.' && (*next == b'/' || *next == b'.' && begins_with_slash(rest))
+        }
+        _ => false,
+    }
+}
+
+fn begins_with_slash(path: &[u8]) -> bool
+    ensures { result ≡ spec.begins_with_slash path.now }
+{
+    match path {
+        [] => false,
+        [first, ..] => *first == b'/',
     }
 }
 

@@ -1,10 +1,14 @@
 //! Which references lead to a place.
-use crate::asked::{Asked, asked_place, mapped, target_of};
+ghost use Rattle.std.specs.Prelude.{◌≡◌};
+ghost use Rattle.serde_json.specs.View.{view};
+ghost use Rattle.ref_lsp.specs.Clients as spec;
+
+use crate::asked::{Asked, asked_place, mapped, refers_at, target_of};
 use crate::definition::{followed, number_of};
 use crate::desk::Desk;
 use crate::judged::range_of;
 use crate::keys;
-use ref_files::{Format, file_uri};
+use ref_files::{Format, file_uri, last_name};
 use ref_outline::Outline;
 use ref_protocol::pieces::{push_comma, push_location};
 use ref_protocol::refusal::Refusal;
@@ -24,14 +28,14 @@ struct Place {
 /// `textDocument/references`: each text that leads to the place, or to where the reference there leads; and that place itself where
 /// it is asked for.
 pub fn references(desk: &Desk<'_>, view: &View<'_, '_>, params: &Value) -> Result<String, Refusal> {
+    let Some(is_with) = with_declaration(params) else {
+        return Err(Refusal::NoParameters);
+    };
     let alloc = desk.alloc();
     let mut out = String::from_str(alloc, "[")?;
     if let Some(asked) = asked_place(desk, params)? {
         let place = place_of(desk, view, asked)?;
-        let is_with = params
-            .pointer("/context/includeDeclaration")
-            .and_then(Value::as_bool);
-        if is_with == Some(true) {
+        if is_with {
             if let Some(target) = target_of(desk, place.number, place.pointer.as_str())? {
                 push_location(alloc, &mut out, target.uri.as_str(), target.name)?;
             }
@@ -40,6 +44,15 @@ pub fn references(desk: &Desk<'_>, view: &View<'_, '_>, params: &Value) -> Resul
     }
     out.push(']')?;
     Ok(out)
+}
+
+// Whether the place itself is asked for too: nothing where the request has no context that says it.
+fn with_declaration(params: &Value) -> Option<bool>
+    ensures { result ≡ spec.with_declaration (view params.now) }
+{
+    params
+        .pointer("/context/includeDeclaration")
+        .and_then(Value::as_bool)
 }
 
 // Whether the value that is asked about names the object that has it.
@@ -113,7 +126,7 @@ fn pointers_in(
     let Some(root) = desk.workspace.value(number) else {
         return Ok(pointers);
     };
-    for referring in references_in(alloc, root)? {
+    for referring in references_at(desk, number, root)? {
         if leads_to(desk, view, &referring, number, place)? {
             let Referring { pointer, .. } = referring;
             pointers.push(pointer)?;
@@ -155,6 +168,28 @@ fn push_places(
         }
     }
     Ok(())
+}
+
+/// The texts of the document with a number, whose value this is, that refer to something by their drafts.
+pub fn references_at<'v>(
+    desk: &Desk<'_>,
+    number: usize,
+    root: &'v Value,
+) -> Result<Vec<Referring<'v>>, AllocError> {
+    let alloc = desk.alloc();
+    let mut list = Vec::new(alloc);
+    for referring in references_in(alloc, root)? {
+        if refers(desk, number, &referring) {
+            list.push(referring)?;
+        }
+    }
+    Ok(list)
+}
+
+// Whether a text of the document with a number refers to something by its draft: one in a mapping does.
+fn refers(desk: &Desk<'_>, number: usize, referring: &Referring<'_>) -> bool {
+    let pointer = referring.pointer.as_str();
+    referring.is_mapped || refers_at(desk, number, pointer, last_name(pointer))
 }
 
 /// The text that is followed for one that refers to something.

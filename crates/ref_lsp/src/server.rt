@@ -10,7 +10,7 @@ use crate::completion::completion;
 use crate::definition::definition;
 use crate::desk::Desk;
 use crate::hover::hover;
-use crate::life::{initialize, renewal, watch};
+use crate::life::{has_capabilities, initialize, renewal, watch};
 use crate::links::links;
 use crate::moved::will_rename;
 use crate::references::references;
@@ -578,11 +578,11 @@ fn begun<R: Source + Drop, W: Sink + Drop>(
     call: Call,
 ) -> Result<(), Unsent> {
     let outcome = match call.message.get("params") {
-        Some(params) => {
+        Some(params) if has_capabilities(params) => {
             desk.is_reset = true;
             Ok(initialize(desk, told, params)?)
         }
-        None => Err(Refusal::NoParameters),
+        _ => Err(Refusal::NoParameters),
     };
     wire.answer(desk.alloc(), outcome)
 }

@@ -11,6 +11,8 @@ pub struct Session {
     told: Told,
     encoding: Encoding,
     is_plain: bool,
+    takes_related: bool,
+    takes_actions: bool,
     folders: Vec<String>,
     open: Vec<OpenText>,
 }
@@ -22,6 +24,8 @@ impl Session {
             told: Told::new(alloc),
             encoding: Encoding::Utf16,
             is_plain: false,
+            takes_related: false,
+            takes_actions: false,
             folders: Vec::new(alloc),
             open: Vec::new(alloc),
         }
@@ -40,6 +44,8 @@ impl Session {
         swap(&mut self.told, told);
         swap(&mut self.encoding, &mut desk.encoding);
         swap(&mut self.is_plain, &mut desk.is_plain);
+        swap(&mut self.takes_related, &mut desk.takes_related);
+        swap(&mut self.takes_actions, &mut desk.takes_actions);
         swap(&mut self.folders, &mut desk.folders);
         swap(&mut self.open, &mut desk.open);
         told.is_fresh = false;

@@ -1,6 +1,10 @@
 //! Definitions and components of all documents, by name.
+ghost use Rattle.std.specs.Prelude.{◌≡◌};
+ghost use Rattle.ref_lsp.specs.Definitions as spec;
+
 use crate::desk::Desk;
 use crate::judged::range_of;
+use crate::kinds::DEFINITIONS;
 use ref_outline::Outline;
 use ref_parts::{write_escaped_str, write_index};
 use ref_protocol::pieces::{push_comma, push_location, push_text};
@@ -31,8 +35,15 @@ pub fn workspace_symbols(desk: &Desk<'_>, params: &Value) -> Result<String, Refu
     Ok(out)
 }
 
-/// The pointers of the definitions and components of a value, but for the definitions of what is in it.
-pub fn named_in(alloc: Global, root: &Value) -> Result<Vec<String>, AllocError> {
+/// The pointers of the definitions of a value, at any depth, and of its components. One pass.
+pub fn definitions_in(alloc: Global, root: &Value) -> Result<Vec<String>, AllocError> {
+    let mut list = named_in(alloc, root)?;
+    push_inner(alloc, &mut list, root)?;
+    Ok(list)
+}
+
+// Those but for the definitions of what is in it.
+fn named_in(alloc: Global, root: &Value) -> Result<Vec<String>, AllocError> {
     let mut list = Vec::new(alloc);
     for key in [
         "$defs",
@@ -41,8 +52,7 @@ pub fn named_in(alloc: Global, root: &Value) -> Result<Vec<String>, AllocError> 
         "responses",
         "securityDefinitions",
     ] {
-        let is_plain = key == "$defs" || key == "definitions";
-        if is_plain || root.get("swagger").is_some() {
+        if DEFINITIONS.contains(&key) || root.get("swagger").is_some() {
             if let Some(value) = root.get(key) {
                 push_names(alloc, &mut list, "", key, value)?;
             }
@@ -112,7 +122,7 @@ fn visit<'v>(
     match spot.value {
         Value::Object(members) => {
             for (key, value) in members {
-                if is_large(value) && (spot.has_names || !is_data(key.as_str())) {
+                if is_large(value) && !is_passed(spot.has_names, key.as_str()) {
                     visit_member(alloc, spot, (key.as_str(), value), list, waiting)?;
                 }
             }
@@ -141,14 +151,14 @@ fn visit_member<'v>(
     waiting: &mut Vec<Spot<'v>>,
 ) -> Result<(), AllocError> {
     let front = spot.pointer.as_str();
-    if !front.is_empty() && !spot.has_names && is_definitions(key) {
+    if !front.is_empty() && are_definitions(spot.has_names, key) {
         push_names(alloc, list, front, key, value)?;
     }
-    let has_names = !spot.has_names && names(front, key);
+    let are_names = has_names(front, spot.has_names, key);
     let mut pointer = spot.pointer.clone()?;
     pointer.push('/')?;
     write_escaped_str(&mut pointer, key)?;
-    push_spot(waiting, pointer, value, has_names)
+    push_spot(waiting, pointer, value, are_names)
 }
 
 fn push_spot<'v>(
@@ -169,23 +179,43 @@ fn is_large(value: &Value) -> bool {
     value.is_object() || value.is_array()
 }
 
-fn is_definitions(key: &str) -> bool {
-    key == "$defs" || key == "definitions"
+// Whether the members of the value under a key are definitions, where the keys beside it are names that somebody gave, or keywords.
+fn are_definitions(are_names: bool, key: &str) -> bool
+    ensures { result ≡ spec.are_definitions are_names key.now }
+{
+    !are_names && DEFINITIONS.contains(&key)
 }
+
+// The keywords whose value is data, or has examples.
+const DATA: [&str; 5] = ["enum", "const", "default", "example", "examples"];
 
 /// Whether what is under a key is a value and no schema.
-pub fn is_data(key: &str) -> bool {
-    matches!(key, "enum" | "const" | "default" | "example" | "examples")
+pub fn is_data(key: &str) -> bool
+    ensures value { result ≡ spec.is_data key.now }
+{
+    DATA.contains(&key)
 }
 
+// Whether no definitions are in the value under a key.
+fn is_passed(are_names: bool, key: &str) -> bool
+    ensures { result ≡ spec.is_passed are_names key.now }
+{
+    !are_names && is_data(key)
+}
+
+// The keywords whose value has subschemas by names.
+const NAMED: [&str; 4] = [
+    "properties",
+    "patternProperties",
+    "dependentSchemas",
+    "dependencies",
+];
+
 // Whether what is under a key, in the object at a pointer, has names as its keys.
-fn names(front: &str, key: &str) -> bool {
-    is_definitions(key)
-        || front == "/components"
-        || matches!(
-            key,
-            "properties" | "patternProperties" | "dependentSchemas" | "dependencies"
-        )
+fn has_names(front: &str, are_names: bool, key: &str) -> bool
+    ensures { result ≡ spec.has_names front.now are_names key.now }
+{
+    !are_names && (DEFINITIONS.contains(&key) || (front == "/components" || NAMED.contains(&key)))
 }
 
 // Those of a document whose names have a query in them.
@@ -195,9 +225,7 @@ fn pointers_in(desk: &Desk<'_>, number: usize, query: &str) -> Result<Vec<String
     let Some(root) = desk.workspace.value(number) else {
         return Ok(list);
     };
-    let mut pointers = named_in(alloc, root)?;
-    push_inner(alloc, &mut pointers, root)?;
-    for pointer in pointers {
+    for pointer in definitions_in(alloc, root)? {
         let mut name = String::from_str(alloc, last_of(pointer.as_str()))?;
         name.make_ascii_lowercase();
         if name.as_str().contains(query) {

@@ -30,11 +30,11 @@ pub(crate) struct Parts<'w> {
     places: BTreeMap<(usize, String), Known>,
 }
 
-// What is known of a place: its base URI, and its draft where it is read by one.
+// What is known of a place: its base URI, and how it is read.
 #[derive(Drop)]
 struct Known {
     base: Rc<Uri>,
-    draft: Option<Draft>,
+    reading: Reading,
 }
 
 /// Those of a workspace that are looked at, of which this is known. One pass over the descriptions, and a look-up table of their places.
@@ -61,12 +61,8 @@ fn places_of(
             let key = (place.document, pointer_of(alloc, place.path.as_slice())?);
             if places.get(&key).is_none() {
                 let base = place.base.clone()?;
-                let draft = if place.reading.is_by_draft() {
-                    Some(place.reading.draft)
-                } else {
-                    None
-                };
-                places.insert(key, Known { base, draft })?;
+                let reading = place.reading;
+                places.insert(key, Known { base, reading })?;
             }
         }
     }
@@ -186,8 +182,29 @@ impl<'w> Parts<'w> {
     ) -> Result<(Rc<Uri>, Draft), AllocError> {
         let key = (number, String::from_str(alloc, pointer)?);
         match self.places.get(&key) {
-            Some(known) => Ok((known.base.clone()?, known.draft.unwrap_or(draft))),
+            Some(known) => {
+                let reading = known.reading;
+                let draft = if reading.is_by_draft() {
+                    reading.draft
+                } else {
+                    draft
+                };
+                Ok((known.base.clone()?, draft))
+            }
             None => Ok((base, draft)),
+        }
+    }
+
+    /// How the place of a description is read that is at a pointer of the document with a number: nothing where there is none.
+    pub fn reading_at(
+        &self,
+        alloc: Global,
+        start: Start<'_>,
+    ) -> Result<Option<Reading>, AllocError> {
+        let key = (start.number, String::from_str(alloc, start.pointer)?);
+        match self.places.get(&key) {
+            Some(known) => Ok(Some(known.reading)),
+            None => Ok(None),
         }
     }
 }

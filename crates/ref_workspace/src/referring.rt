@@ -1,4 +1,7 @@
 //! The texts of a value that refer to something, wherever they are.
+ghost use Rattle.std.specs.Prelude.{◌≡◌};
+ghost use Rattle.ref_workspace.specs.Referring as spec;
+
 use crate::follow::Start;
 use ref_parts::{write_escaped_str, write_index};
 use serde_json::{Map, Value};
@@ -25,12 +28,20 @@ impl Referring<'_> {
     }
 }
 
-/// Whether the text under a key refers to something.
-pub fn is_referring(key: &str) -> bool {
-    matches!(
-        key,
-        "$ref" | "$dynamicRef" | "$recursiveRef" | "$schema" | "operationRef"
-    )
+// The keywords whose text refers to something.
+const KEYWORDS: [&str; 5] = [
+    "$ref",
+    "$dynamicRef",
+    "$recursiveRef",
+    "$schema",
+    "operationRef",
+];
+
+/// Whether the text under a key refers to something. A few comparisons of names; takes no memory.
+pub fn is_referring(key: &str) -> bool
+    ensures value { result ≡ spec.is_referring key.now }
+{
+    KEYWORDS.contains(&key)
 }
 
 // A value that is to be visited.
@@ -112,14 +123,14 @@ fn visit_member<'v>(
         }
     }
     if value.is_object() || value.is_array() {
-        let has_names = !spot.has_names && NAMED.contains(&key);
-        push_spot(waiting, below(&spot.pointer, key)?, value, has_names)?;
+        let are_names = !spot.has_names && has_names(key);
+        push_spot(waiting, below(&spot.pointer, key)?, value, are_names)?;
     }
     Ok(())
 }
 
 /// The keys whose values have keys that somebody gave.
-pub(crate) const NAMED: [&str; 22] = [
+const NAMED: [&str; 22] = [
     "properties",
     "patternProperties",
     "$defs",
@@ -145,13 +156,26 @@ pub(crate) const NAMED: [&str; 22] = [
     "examples",
 ];
 
+/// Whether the value under a key has keys that somebody gave. A few comparisons of names; takes no memory.
+pub fn has_names(key: &str) -> bool
+    ensures value { result ≡ spec.has_names key.now }
+{
+    NAMED.contains(&key)
+}
+
+// The keywords whose value is data.
+const DATA: [&str; 4] = ["enum", "const", "default", "example"];
+
+/// Whether the value under a key is data, in which nothing refers to something. A few comparisons of names; takes no memory.
+pub fn is_data(key: &str) -> bool
+    ensures value { result ≡ spec.is_data key.now }
+{
+    DATA.contains(&key)
+}
+
 /// Whether nothing in the value under a key refers to something.
 pub(crate) fn is_passed(key: &str, value: &Value) -> bool {
-    match key {
-        "enum" | "const" | "default" | "example" => true,
-        "examples" => value.is_array(),
-        _ => false,
-    }
+    is_data(key) || key == "examples" && value.is_array()
 }
 
 fn push_mapped<'v>(

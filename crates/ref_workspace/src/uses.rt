@@ -3,7 +3,7 @@
 //! A document is looked at by itself, and whatever it is read as: each text counts that stands where a reference may be, and each identifier and anchor that there
 //! may be. So a definition may count as used that isn't, and none that is used counts as unused.
 use crate::heads::is_identifier;
-use crate::referring::{NAMED, is_passed};
+use crate::referring::{has_names, is_passed};
 use percent_encoding::{DecodeError, percent_decode};
 use ref_descriptions::version_of;
 use ref_index::meanings::{if_meant, target_of};
@@ -475,7 +475,7 @@ impl<'v> Walk<'v> {
             Role::Definitions
         } else if is_at_root && member.is_placed && key == "components" {
             Role::Components
-        } else if NAMED.contains(&key) {
+        } else if has_names(key) {
             Role::Names
         } else {
             Role::Keywords

@@ -4,6 +4,7 @@ use crate::follow::{Found, Outcome, Start, looked_up};
 use crate::parts::{Parts, parts_of};
 use crate::workspace::Workspace;
 use crate::world::{World, bearers, without_fragment};
+use ref_descriptions::Reading;
 use ref_error::Error;
 use ref_parts::path::JsonPointerSegment;
 use ref_parts::pointer_of;
@@ -65,6 +66,19 @@ impl<'w, 'd> View<'w, 'd> {
             }
         }
         Ok(Some(own))
+    }
+
+    /// How the object at a place is read, where the place is one of a description, or of what a description leads to: nothing elsewhere, and where
+    /// nothing leads there. A look-up.
+    pub fn reading_at(
+        &self,
+        alloc: Global,
+        start: Start<'_>,
+    ) -> Result<Option<Reading>, AllocError> {
+        match &self.parts {
+            Some(parts) => parts.reading_at(alloc, start),
+            None => Ok(None),
+        }
     }
 
     /// What a reference leads to from a place of a document, as [`followed`](crate::follow::followed) has it; the place need not be
