@@ -6,6 +6,7 @@
 mod beside;
 pub mod bundle;
 mod editing;
+pub mod examples;
 mod fix;
 pub mod graph;
 mod known;
