@@ -370,12 +370,23 @@ fn target_in(
     pointer: &str,
 ) -> Result<Target, AllocError> {
     let outline = Outline::of(desk.alloc(), format, text)?;
+    Ok(target_at(desk, uri, text, &outline, pointer))
+}
+
+/// The place at a pointer of a text, of which this is the outline, in the document with a URI.
+pub fn target_at(
+    desk: &Desk<'_>,
+    uri: String,
+    text: &str,
+    outline: &Outline,
+    pointer: &str,
+) -> Target {
     let Some(node) = outline.at(pointer) else {
-        return Ok(Target {
+        return Target {
             uri,
             name: NOWHERE,
             whole: NOWHERE,
-        });
+        };
     };
     let whole = range_of(desk, text, node.start, node.end);
     let name = match node.key {
@@ -385,7 +396,7 @@ fn target_in(
             (start, start)
         }
     };
-    Ok(Target { uri, name, whole })
+    Target { uri, name, whole }
 }
 
 /// Whether a text has a value.

@@ -1,5 +1,5 @@
 //! The references of a document, as links.
-use crate::asked::{asked_document, target_of};
+use crate::asked::{Target, asked_document, target_at, target_of};
 use crate::definition::{followed, number_of};
 use crate::desk::Desk;
 use crate::judged::range_of;
@@ -48,7 +48,8 @@ fn push_link(
     let Some(to) = number_of(view, &found) else {
         return Ok(());
     };
-    let Some(target) = target_of(desk, to, found.pointer.as_str())? else {
+    let pointer = found.pointer.as_str();
+    let Some(target) = target_in(desk, (number, to), outline, pointer)? else {
         return Ok(());
     };
     let (_, text) = desk.text_of(number);
@@ -63,4 +64,20 @@ fn push_link(
     let uri = format!(in alloc; "{}#L{line},{column}", target.uri.as_str())?;
     push_text(alloc, out, ",\"target\":", uri.as_str())?;
     out.push('}')
+}
+
+// The place at a pointer of the document to which a reference of another leads. Where both are one that is in no map, its text isn't
+// outlined again.
+fn target_in(
+    desk: &Desk<'_>,
+    (number, to): (usize, usize),
+    outline: &Outline,
+    pointer: &str,
+) -> Result<Option<Target>, AllocError> {
+    if to != number || desk.mapped_file(number)?.is_some() {
+        return target_of(desk, to, pointer);
+    }
+    let uri = desk.client_uri(number)?;
+    let (_, text) = desk.text_of(number);
+    Ok(Some(target_at(desk, uri, text, outline, pointer)))
 }
